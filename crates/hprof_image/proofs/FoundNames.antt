@@ -1,13 +1,13 @@
 -- Names and classes are found by their ids.
-use Rattle.std.proofs.Common.{◌≡◌, ℕ, zero, suc, ◌+◌, ◌*◌, ◌<◌, ◌≤◌, ◌==◌, ◌||◌, Bool, true, false, not, cond, List, [], ◌∷◌, ◌++◌, length, map, filter, Option, Some, None, refl, sym, ap, ap₂, subst, ◌∙◌, arith, inl, inr}
-use Rattle.std.specs.Prelude.{flat_map, slice_get, All}
-use Rattle.std.specs.List.{AllByRecursion, enumerate_from, position_from, position_or_len, list_any}
+use Rattle.std.proofs.Common.{◌≡◌, ℕ, zero, suc, ◌+◌, ◌||◌, Bool, true, false, not, cond, List, [], ◌∷◌, map, Option, Some, refl, sym, ap, ap₂, ◌∙◌, arith}
+use Rattle.std.specs.Prelude.{flat_map, slice_get}
+use Rattle.std.specs.List.{AllByRecursion, enumerate_from, position_or_len, list_any}
 use Rattle.std.specs.Str.{bytes_eq}
-use Rattle.std.proofs.lemmas.Bool.{cases_eq, eq-eqb, ne_eqb, or_left, or_right}
-use Rattle.std.proofs.lemmas.List.Folds.{list_any-append}
+use Rattle.std.proofs.lemmas.Bool.{eq-eqb, ne_eqb, or_left, or_right}
 use Rattle.heap_class.specs.declared.Field.{Field}
 use Rattle.heap_class.specs.Classes.{Class, names_in, first_uses, name_table, name_id}
-use Rattle.heap_class.proofs.FirstUses.{bytes_same, bytes_self, bytes_flip}
+use Rattle.heap_class.proofs.FirstUses.{bytes_same, bytes_self}
+use Rattle.heap_class.proofs.Front.{any_of_first_part, any_of_second_part, uses_have}
 use Rattle.hprof_text.specs.Text.{class_id}
 use Rattle.hprof_image.specs.Parts.{found}
 
@@ -40,33 +40,12 @@ name_stands_at_its_first_place n (x ∷ xs) there = by_test (bytes_eq n x) refl 
     by_test true same there later = ap (λ (y : List ℕ). Some y) (sym (bytes_same n x same))
     by_test false other there later = item_after_first x xs (1 + position_or_len (bytes_eq n) xs) (position_or_len (bytes_eq n) xs) (Some n) refl (later there)
 
-name_apart_from_dropped_is_kept : (x n : List ℕ) (xs : List (List ℕ)) → bytes_eq n x ≡ false → list_any (bytes_eq n) xs ≡ true → list_any (bytes_eq n) (filter (λ y. not (bytes_eq x y)) xs) ≡ true
-name_apart_from_dropped_is_kept x n [] other there = absurd cc
-name_apart_from_dropped_is_kept x n (y ∷ ys) other there = by_tests (bytes_eq n y) (bytes_eq x y) refl refl there (name_apart_from_dropped_is_kept x n ys other)
-  where
-    by_tests : (a b : Bool) → bytes_eq n y ≡ a → bytes_eq x y ≡ b → (a || list_any (bytes_eq n) ys) ≡ true → (list_any (bytes_eq n) ys ≡ true → list_any (bytes_eq n) (filter (λ y. not (bytes_eq x y)) ys) ≡ true)
-        → list_any (bytes_eq n) (cond (not b) (y ∷ filter (λ y. not (bytes_eq x y)) ys) (filter (λ y. not (bytes_eq x y)) ys)) ≡ true
-    by_tests true true same dropped there later = let e : bytes_eq x n ≡ true = ap (bytes_eq x) (bytes_same n y same) ∙ dropped in let f : bytes_eq n x ≡ true = bytes_flip n x ∙ e in absurd cc
-    by_tests true false same kept there later = or_left (bytes_eq n y) _ same
-    by_tests false true apart dropped there later = later there
-    by_tests false false apart kept there later = or_right (bytes_eq n y) _ (later there)
-
-name_is_among_first_uses : (n : List ℕ) (xs : List (List ℕ)) → list_any (bytes_eq n) xs ≡ true → list_any (bytes_eq n) (first_uses xs) ≡ true
-unfolding first_uses
-name_is_among_first_uses n [] there = absurd cc
-name_is_among_first_uses n (x ∷ xs) there = by_test (bytes_eq n x) refl there (name_is_among_first_uses n xs)
-  where
-    by_test : (b : Bool) → bytes_eq n x ≡ b → (b || list_any (bytes_eq n) xs) ≡ true → (list_any (bytes_eq n) xs ≡ true → list_any (bytes_eq n) (first_uses xs) ≡ true)
-        → list_any (bytes_eq n) (x ∷ filter (λ y. not (bytes_eq x y)) (first_uses xs)) ≡ true
-    by_test true same there later = or_left (bytes_eq n x) _ same
-    by_test false other there later = or_right (bytes_eq n x) _ (name_apart_from_dropped_is_kept x n (first_uses xs) other (later there))
-
 name_of_class_is_among_all : (n : List ℕ) (classes : List Class) (k : ℕ) (c : Class) → slice_get classes k ≡ Some c → list_any (bytes_eq n) (names_in c) ≡ true → list_any (bytes_eq n) (flat_map names_in classes) ≡ true
 name_of_class_is_among_all n [] k c stands there = absurd cc
 name_of_class_is_among_all n (d ∷ classes) zero c stands there =
-    let same : d ≡ c = cc in list_any-append (bytes_eq n) (names_in d) (flat_map names_in classes) ∙ or_left _ _ (ap (λ (d : Class). list_any (bytes_eq n) (names_in d)) same ∙ there)
+    let same : d ≡ c = cc in any_of_first_part (bytes_eq n) (names_in d) (flat_map names_in classes) (ap (λ (d : Class). list_any (bytes_eq n) (names_in d)) same ∙ there)
 name_of_class_is_among_all n (d ∷ classes) (suc k) c stands there =
-    list_any-append (bytes_eq n) (names_in d) (flat_map names_in classes) ∙ or_right (list_any (bytes_eq n) (names_in d)) _ (name_of_class_is_among_all n classes k c stands there)
+    any_of_second_part (bytes_eq n) (names_in d) (flat_map names_in classes) (name_of_class_is_among_all n classes k c stands there)
 
 -- ---- the names of a class
 
@@ -79,7 +58,7 @@ unfolding name_id name_table
 name_of_class_is_found classes k c n stands there =
     let names = first_uses (flat_map names_in classes) in
     numbered_entry_is_found (λ i. i) (λ (e : ℕ × List ℕ). e.1) (λ a b e. e) names (position_or_len (bytes_eq n) names) 1 (1 + position_or_len (bytes_eq n) names) n refl
-    (name_stands_at_its_first_place n names (name_is_among_first_uses n (flat_map names_in classes) (name_of_class_is_among_all n classes k c stands there)))
+    (name_stands_at_its_first_place n names (uses_have n (flat_map names_in classes) (name_of_class_is_among_all n classes k c stands there)))
 
 pub own_name_is_in_class : (c : Class) → list_any (bytes_eq c.name) (names_in c) ≡ true
 unfolding names_in

@@ -1,5 +1,5 @@
 -- Items one after another are read as they are spelled.
-use Rattle.std.proofs.Common.{◌≡◌, ℕ, zero, suc, ◌+◌, ◌≤◌, List, [], ◌∷◌, ◌++◌, length, length-append, map, Option, Some, None, Result, Ok, refl, sym, ap, ap₂, subst, ◌∙◌, arith}
+use Rattle.std.proofs.Common.{◌≡◌, ℕ, zero, suc, ◌+◌, ◌≤◌, List, [], ◌∷◌, ◌++◌, length, length-append, map, Option, Some, None, Result, Ok, refl, sym, ap, ap₂, ◌∙◌, arith}
 use Rattle.std.specs.Prelude.{flat_map, filter_map}
 use Rattle.std.specs.List.{AllByRecursion, concat, enumerate_from}
 use Rattle.std.specs.Result.{result_ok}
@@ -103,7 +103,7 @@ segments_are_read_part_by_part {A = A} text fits read reader some (s ∷ segment
     let cut = items_cut_as_their_texts text fits s (flat_map (λ s. s) segments) xs e all in
     let more = segments_are_read_part_by_part text fits read reader some segments cut.zs cut.in_rest cut.all_in_rest in
     let own : items_in read (concat s) ≡ Some cut.ys =
-        ap (λ (t : List (List ℕ)). items_in read (concat t)) (sym cut.in_front) ∙ ap (items_in read) (concat_of_texts text cut.ys) ∙ spelled_items_are_read text fits read reader some cut.ys cut.all_in_front in
+    ap (λ (t : List (List ℕ)). items_in read (concat t)) (sym cut.in_front) ∙ ap (items_in read) (concat_of_texts text cut.ys) ∙ spelled_items_are_read text fits read reader some cut.ys cut.all_in_front in
     record {
       parts = cut.ys ∷ more.parts;
       read_as =

@@ -1,5 +1,5 @@
 -- The classes of a dump are those of its image.
-use Rattle.std.proofs.Common.{◌≡◌, ℕ, ◌+◌, ◌*◌, ◌<◌, ◌≤◌, ◌==◌, Bool, true, false, cond, List, [], ◌∷◌, ◌++◌, length, length-append, map, Option, Some, None, refl, sym, ap, ap₂, subst, ◌∙◌, arith, inl, inr}
+use Rattle.std.proofs.Common.{◌≡◌, ℕ, ◌+◌, ◌<◌, ◌≤◌, ◌==◌, Bool, true, cond, List, [], ◌∷◌, ◌++◌, length, length-append, map, Option, Some, None, refl, sym, ap, subst, ◌∙◌, arith, inl, inr}
 use Rattle.std.specs.Prelude.{flat_map, slice_get, option_map, All}
 use Rattle.std.specs.Option.{option_map_or}
 use Rattle.std.specs.List.{AllByRecursion, enumerate_from, position_from, list_any}
@@ -11,7 +11,7 @@ use Rattle.std.proofs.lemmas.List.FromFn.{length-enumerate_from, get_or-enumerat
 use Rattle.std.proofs.lemmas.Option.{slice_get-get_or}
 use Rattle.heap_class.specs.declared.IdSize.{IdSize}
 use Rattle.heap_class.specs.declared.Field.{Field}
-use Rattle.heap_class.specs.Kinds.{id_bytes, type_code}
+use Rattle.heap_class.specs.Kinds.{type_code}
 use Rattle.heap_class.specs.Classes.{Class, names_in, name_id, instance_size, instance_class, IsClassTable}
 use Rattle.hprof_text.specs.Fits.{FieldFits, ClassDumpFits}
 use Rattle.hprof_text.specs.Text.{u1, id, class_id, field_entry}
@@ -133,7 +133,7 @@ class_is_told ids classes e is =
     ap (λ (o : Option ℕ). o >>= λ x. found names.names x >>= λ name. super_of told (option_map_or class_id c.sup 0) >>= λ sup. items_in (own_field_parts ids) bytes >>= λ own. all_there (map (field_of names) own) >>= λ fields. Some (instance_class name sup fields))
     (numbered_entry_is_found class_id (λ (c : ℕ × Class). name_id classes c.1.name) class_ids_apart classes e.0 0 e.0 c (omega arith) is.stands)
     ∙ ap (λ (o : Option (List ℕ)). o >>= λ name. super_of told (option_map_or class_id c.sup 0) >>= λ sup. items_in (own_field_parts ids) bytes >>= λ own. all_there (map (field_of names) own) >>= λ fields. Some (instance_class name sup fields))
-      (name_of_class_is_found classes e.0 c c.name is.stands (own_name_is_in_class c))
+    (name_of_class_is_found classes e.0 c c.name is.stands (own_name_is_in_class c))
     ∙ ap (λ (o : Option (Option ℕ)). o >>= λ sup. items_in (own_field_parts ids) bytes >>= λ own. all_there (map (field_of names) own) >>= λ fields. Some (instance_class c.name sup fields)) (super_is_found ids classes c.sup is.sup)
     ∙ ap (λ (o : Option (List OwnField)). o >>= λ own. all_there (map (field_of names) own) >>= λ fields. Some (instance_class c.name c.sup fields)) (own_fields_are_read ids classes c.fields is.fits.4)
     ∙ ap (λ (o : Option (List Field)). o >>= λ fields. Some (instance_class c.name c.sup fields)) (fields_are_told classes c.fields fields_named)
@@ -147,7 +147,7 @@ numbered_classes_stand classes k d within =
 pub classes_are_dumped : (ids : IdSize) (classes : List Class) → IsClassTable [] classes → All (ClassDumpFits ids classes) (enumerate_from 0 classes) → AllByRecursion (IsDumpedClass ids classes) (enumerate_from 0 classes)
 classes_are_dumped ids classes table fit =
     let small : All (λ e. IsSmall (length classes) e.1) (enumerate_from 0 classes) =
-        all_hold_with_their_numbers (λ e. IsSmall (length classes) e.1) (IsSmall (length classes)) (length classes) 0 classes (omega arith) (λ k c less is. is) (classes_small classes table) in
+    all_hold_with_their_numbers (λ e. IsSmall (length classes) e.1) (IsSmall (length classes)) (length classes) 0 classes (omega arith) (λ k c less is. is) (classes_small classes table) in
     recursion_from_All (IsDumpedClass ids classes) (enumerate_from 0 classes) (λ k d within. record { stands = numbered_classes_stand classes k d within; fits = fit k d within; sup = (small k d within).sup })
 
 pub classes_are_told : (ids : IdSize) (classes : List Class) → AllByRecursion (IsDumpedClass ids classes) (enumerate_from 0 classes) → all_there (map (class_of ids (names_of classes) (dumped_classes ids classes)) (dumped_classes ids classes)) ≡ Some (map class_shown classes)

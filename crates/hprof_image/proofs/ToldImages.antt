@@ -1,7 +1,7 @@
 -- The dump of an image tells it.
-use Rattle.std.proofs.Common.{◌≡◌, ℕ, ◌+◌, ◌^◌, ◌<◌, ◌≤◌, ◌==◌, ◌||◌, not, List, [], ◌∷◌, ◌++◌, length, map, filter, append_assoc, Option, Some, Result, Ok, refl, sym, ap, ◌∙◌, arith}
-use Rattle.std.specs.Prelude.{flat_map, filter_map, All}
-use Rattle.std.specs.List.{AllByRecursion, concat, enumerate_from}
+use Rattle.std.proofs.Common.{◌≡◌, ℕ, ◌+◌, ◌^◌, ◌<◌, ◌≤◌, ◌==◌, ◌||◌, List, [], ◌++◌, length, map, append_assoc, Option, Some, Result, sym, ap, ◌∙◌, arith}
+use Rattle.std.specs.Prelude.{flat_map, filter_map}
+use Rattle.std.specs.List.{AllByRecursion, enumerate_from}
 use Rattle.std.specs.Result.{result_ok}
 use Rattle.std.proofs.lemmas.List.{append-nil}
 use Rattle.std.proofs.lemmas.List.Elements.{recursion_from_All}
@@ -13,7 +13,6 @@ use Rattle.hprof_text.specs.Segments.{AreSegments, segment_limit, segments_of, d
 use Rattle.hprof_text.specs.Fits.{Utf8Fits, LoadClassFits, HoldsWhole, ShowsWhole}
 use Rattle.hprof_reader.specs.declared.fault.Fault.{Fault}
 use Rattle.hprof_reader.specs.declared.header.Header.{Header}
-use Rattle.hprof_reader.specs.Headers.{header_parts}
 use Rattle.hprof_reader.specs.Images.{subs_of, AreRead}
 use Rattle.hprof_reader.specs.Reading.{record_parts}
 use Rattle.hprof_reader.specs.Records.{Told, record_text, FitsRecord}
@@ -24,12 +23,12 @@ use Rattle.hprof_reader.proofs.ReadKinds.{id_reader, four_byte_number_reader}
 use Rattle.hprof_reader.proofs.ReadSubs.{sub_reader}
 use Rattle.hprof_reader.proofs.WholeRecords.{record_reader}
 use Rattle.hprof_image.specs.Items.{◌>>=◌, items_in, all_there}
-use Rattle.hprof_image.specs.Parts.{Names, name_in, load_in, class_in, class_of, object_in, register_in}
-use Rattle.hprof_image.specs.Images.{image_of, bodies, image_in, dump_told, class_shown, image_shown, shown}
+use Rattle.hprof_image.specs.Parts.{Names, name_in, load_in, class_of, object_in, register_in}
+use Rattle.hprof_image.specs.Images.{image_told, bodies, image_in, dump_told, class_shown, image_shown, shown}
 use Rattle.hprof_image.proofs.ReadItems.{spelled_items_are_read, values_of_parts_are_all_there, segments_are_read_part_by_part}
 use Rattle.hprof_image.proofs.FoundNames.{name_entries}
 use Rattle.hprof_image.proofs.ToldRecords.{name_body, load_body, records_of, name_bodies_of_dump, class_bodies_of_dump, heap_bodies_of_dump, dump_text_is_that_of_records, records_of_dump_fit}
-use Rattle.hprof_image.proofs.ToldClasses.{dumped_classes, class_entries, names_of, IsDumpedClass, classes_are_dumped, classes_are_told}
+use Rattle.hprof_image.proofs.ToldClasses.{dumped_classes, class_entries, names_of, classes_are_dumped, classes_are_told}
 use Rattle.hprof_image.proofs.ToldObjects.{IsDumpedObject, classes_in_subs, registers_in_subs, objects_in_subs}
 
 -- ---- names
@@ -62,7 +61,7 @@ loads_are_read ids image holds =
     let numbered = enumerate_from 0 image.classes in
     ap (λ (bs : List (List ℕ)). all_there (map (load_in ids) bs)) (class_bodies_of_dump ids image)
     ∙ values_of_parts_are_all_there (load_in ids) (load_body ids image.classes) (λ c. (class_id c.0, name_id image.classes c.1.name)) (LoadClassFits ids image.classes) (load_is_read ids image.classes) numbered
-      (recursion_from_All (LoadClassFits ids image.classes) numbered holds.loaded)
+    (recursion_from_All (LoadClassFits ids image.classes) numbered holds.loaded)
 
 -- ---- sub-records
 
@@ -73,18 +72,18 @@ image_by ids names told subs =
     >>= λ classes. all_there (filter_map (object_in ids told classes) subs)
     >>= λ objects. Some (record { classes = classes; registers = filter_map register_in subs; objects = objects })
 
-image_of_subs_is_shown : (ids : IdSize) (image : Image) → IsDumpable image → ShowsWhole ids image → HoldsWhole ids image 0 → image_of ids (names_of image.classes) (subs_of ids image) ≡ Some (image_shown image)
-unfolding image_of
+image_of_subs_is_shown : (ids : IdSize) (image : Image) → IsDumpable image → ShowsWhole ids image → HoldsWhole ids image 0 → image_told ids (names_of image.classes) (subs_of ids image) ≡ Some (image_shown image)
+unfolding image_told
 image_of_subs_is_shown ids image dumpable shows holds =
     let names = names_of image.classes in
     let subs : List Sub = subs_of ids image in
     let told : List ClassTold = dumped_classes ids image.classes in
     let classes : List Class = map class_shown image.classes in
     let objects_dumped : AllByRecursion (IsDumpedObject ids image.classes) image.objects =
-        recursion_from_All (IsDumpedObject ids image.classes) image.objects (λ k d within. record { known = dumpable.known k d within; words = shows.words k d within }) in
+    recursion_from_All (IsDumpedObject ids image.classes) image.objects (λ k d within. record { known = dumpable.known k d within; words = shows.words k d within }) in
     ap (λ (cs : List ClassTold). image_by ids names cs subs) (classes_in_subs ids image)
     ∙ ap (λ (o : Option (List Class)). o >>= λ cs. all_there (filter_map (object_in ids told cs) subs) >>= λ objects. Some (record { classes = cs; registers = filter_map register_in subs; objects = objects }))
-      (classes_are_told ids image.classes (classes_are_dumped ids image.classes dumpable.classes holds.classes))
+    (classes_are_told ids image.classes (classes_are_dumped ids image.classes dumpable.classes holds.classes))
     ∙ ap (λ (o : Option (List DumpedObject)). o >>= λ objects. Some (record { classes = classes; registers = filter_map register_in subs; objects = objects })) (objects_in_subs ids image objects_dumped)
     ∙ ap (λ (rs : List ℕ). Some (record { classes = classes; registers = rs; objects = image.objects })) (registers_in_subs ids image)
 
@@ -105,13 +104,13 @@ image_of_records_is_shown ids image dumpable shows holds read cut =
     let segments : List (List (List ℕ)) = segments_of segment_limit (sub_records ids image) in
     let parts = segments_are_read_part_by_part (sub_text ids) (FitsSub ids) (sub_parts ids) (sub_reader ids) (sub_text_has_bytes ids) segments (subs_of ids image) (read.spelled ∙ sym cut.joined) read.fit in
     let parts_read : all_there (map (items_in (sub_parts ids)) (bodies (λ t. t == 0x0c || t == 0x1c) records)) ≡ Some parts.parts =
-        ap (λ (bs : List (List ℕ)). all_there (map (items_in (sub_parts ids)) bs)) (heap_bodies_of_dump ids image) ∙ parts.read_as in
+    ap (λ (bs : List (List ℕ)). all_there (map (items_in (sub_parts ids)) bs)) (heap_bodies_of_dump ids image) ∙ parts.read_as in
     ap (λ (o : Option (List (ℕ × List ℕ))). o >>= λ names. all_there (map (load_in ids) (bodies (λ t. t == 0x02) records)) >>= λ loads. all_there (map (items_in (sub_parts ids)) (bodies (λ t. t == 0x0c || t == 0x1c) records))
-    >>= λ ss. image_of ids (record { names = names; loads = loads }) (flat_map (λ s. s) ss)) (names_are_read ids image holds)
-    ∙ ap (λ (o : Option (List (ℕ × ℕ))). o >>= λ loads. all_there (map (items_in (sub_parts ids)) (bodies (λ t. t == 0x0c || t == 0x1c) records)) >>= λ ss. image_of ids (record { names = name_entries image.classes; loads = loads }) (flat_map (λ s. s) ss))
-      (loads_are_read ids image holds)
-    ∙ ap (λ (o : Option (List (List Sub))). o >>= λ ss. image_of ids (names_of image.classes) (flat_map (λ s. s) ss)) parts_read
-    ∙ ap (image_of ids (names_of image.classes)) parts.joined
+    >>= λ ss. image_told ids (record { names = names; loads = loads }) (flat_map (λ s. s) ss)) (names_are_read ids image holds)
+    ∙ ap (λ (o : Option (List (ℕ × ℕ))). o >>= λ loads. all_there (map (items_in (sub_parts ids)) (bodies (λ t. t == 0x0c || t == 0x1c) records)) >>= λ ss. image_told ids (record { names = name_entries image.classes; loads = loads }) (flat_map (λ s. s) ss))
+    (loads_are_read ids image holds)
+    ∙ ap (λ (o : Option (List (List Sub))). o >>= λ ss. image_told ids (names_of image.classes) (flat_map (λ s. s) ss)) parts_read
+    ∙ ap (image_told ids (names_of image.classes)) parts.joined
     ∙ image_of_subs_is_shown ids image dumpable shows holds
 
 pub dump_tells_image : (ids : IdSize) (image : Image) (time : ℕ) → IsDumpable image → ShowsWhole ids image → HoldsWhole ids image 0 → AreRead ids image → AreSegments segment_limit (sub_records ids image) (segments_of segment_limit (sub_records ids image))

@@ -1,5 +1,5 @@
 -- The objects and registers of a dump are those of its image.
-use Rattle.std.proofs.Common.{◌≡◌, ℕ, ◌<◌, ◌==◌, Bool, true, false, not, cond, List, [], ◌∷◌, ◌++◌, length, map, filter, Option, Some, None, refl, sym, ap, ap₂, ◌∙◌, arith}
+use Rattle.std.proofs.Common.{◌≡◌, ℕ, ◌==◌, Bool, true, false, not, cond, List, [], ◌∷◌, ◌++◌, length, map, filter, Option, Some, None, refl, ap, ap₂, ◌∙◌}
 use Rattle.std.specs.Prelude.{flat_map, filter_map, zip, slice_get, unwrap_or}
 use Rattle.std.specs.List.{AllByRecursion, enumerate_from}
 use Rattle.std.proofs.lemmas.List.{append-nil}
@@ -10,14 +10,13 @@ use Rattle.heap_class.specs.declared.ObjKind.{ObjKind}
 use Rattle.heap_class.specs.declared.ObjKind.TheVariants.{Instance, Array, Prim}
 use Rattle.heap_class.specs.Classes.{Class, slots_under, slot_table_after, slots_of, slot_kinds_of}
 use Rattle.hprof_text.specs.Image.{Image, DumpedObject, IsKnown}
-use Rattle.hprof_text.specs.Text.{id, class_id, value_bytes}
+use Rattle.hprof_text.specs.Text.{id, value_bytes}
 use Rattle.hprof_text.specs.Fits.{WordsFit}
 use Rattle.hprof_reader.specs.Images.{class_sub, kind_sub, object_sub, class_root, register_roots, subs_of}
-use Rattle.hprof_reader.specs.Reading.{number_at}
 use Rattle.hprof_reader.specs.SubParts.{id_at}
 use Rattle.hprof_reader.specs.SubRecords.{Sub, ClassTold, root}
 use Rattle.hprof_image.specs.Items.{◌>>=◌, items_in, all_there}
-use Rattle.hprof_image.specs.Parts.{value_width, values_in, class_in, number_of, object_in, register_in}
+use Rattle.hprof_image.specs.Parts.{values_in, class_in, object_in, register_in}
 use Rattle.hprof_image.specs.Images.{class_shown}
 use Rattle.hprof_image.proofs.ReadItems.{given_values_are_all_there, each_item_is_kept, no_item_is_kept}
 use Rattle.hprof_image.proofs.ReadValues.{values_of_slots_are_read, references_of_array_are_read, values_of_array_are_read}
@@ -120,11 +119,11 @@ objects_in_subs ids image dumped =
     let value : Sub → Option (Option DumpedObject) = object_in ids (dumped_classes ids image.classes) (map class_shown image.classes) in
     let told : List (Option DumpedObject) = map (λ o. Some o) image.objects in
     ap (all_there {A = DumpedObject}) (
-      kept_of_four_sections value (map (class_sub ids image.classes) es) (map class_root es) (map (object_sub ids image.classes) image.objects) (flat_map register_roots image.registers) [] [] told []
-      (no_item_is_kept value (class_sub ids image.classes) (λ e. refl) es)
-      (no_item_is_kept value class_root (λ e. refl) es)
-      (each_item_is_kept value (object_sub ids image.classes) (λ o. Some o) (IsDumpedObject ids image.classes) (λ o is. object_is_told ids image.classes o.id o.kind o.words is.known is.words) image.objects dumped)
-      (no_register_root_is_kept value (λ x. refl) image.registers)
-      ∙ append-nil told
+    kept_of_four_sections value (map (class_sub ids image.classes) es) (map class_root es) (map (object_sub ids image.classes) image.objects) (flat_map register_roots image.registers) [] [] told []
+    (no_item_is_kept value (class_sub ids image.classes) (λ e. refl) es)
+    (no_item_is_kept value class_root (λ e. refl) es)
+    (each_item_is_kept value (object_sub ids image.classes) (λ o. Some o) (IsDumpedObject ids image.classes) (λ o is. object_is_told ids image.classes o.id o.kind o.words is.known is.words) image.objects dumped)
+    (no_register_root_is_kept value (λ x. refl) image.registers)
+    ∙ append-nil told
     )
     ∙ given_values_are_all_there image.objects

@@ -1,12 +1,12 @@
 -- The records of a dump are those that its text spells.
-use Rattle.std.proofs.Common.{◌≡◌, ℕ, ◌+◌, ◌^◌, ◌<◌, ◌≤◌, ◌==◌, ◌||◌, Bool, true, false, List, [], ◌∷◌, ◌++◌, length, length-append, append_assoc, map, refl, sym, ap, ap₂, ◌∙◌, arith}
-use Rattle.std.specs.Prelude.{flat_map, filter, All}
+use Rattle.std.proofs.Common.{◌≡◌, ℕ, ◌+◌, ◌^◌, ◌<◌, ◌==◌, ◌||◌, Bool, true, false, List, [], ◌∷◌, ◌++◌, length, append_assoc, map, refl, sym, ap, ap₂, ◌∙◌, arith}
+use Rattle.std.specs.Prelude.{flat_map}
 use Rattle.std.specs.List.{AllByRecursion, concat, enumerate_from}
 use Rattle.std.proofs.lemmas.List.{append-nil}
 use Rattle.std.proofs.lemmas.List.Elements.{recursion_from_All}
 use Rattle.heap_class.specs.declared.IdSize.{IdSize}
 use Rattle.heap_class.specs.Classes.{Class, name_table, name_id}
-use Rattle.hprof_records.specs.Heads.{u1, u4, record_of}
+use Rattle.hprof_records.specs.Heads.{u4, record_of}
 use Rattle.hprof_text.specs.Image.{Image}
 use Rattle.hprof_text.specs.Text.{id, class_id, header, utf8, load_class, trace, opening_records, sub_records}
 use Rattle.hprof_text.specs.Segments.{segment_limit, size_of, segments_of, segment_records, end_record, dump_text}
@@ -99,7 +99,7 @@ unfolding records_of
 name_bodies_of_dump ids image =
     bodies_of_passing_tag is_name_tag 0x01 (name_body ids) (enumerate_from 1 (name_table image.classes)) (class_part ids image) refl
     ∙ ap (λ (l : List (List ℕ)). map (name_body ids) (enumerate_from 1 (name_table image.classes)) ++ l)
-      (bodies_of_other_tag is_name_tag 0x02 (load_body ids image.classes) (enumerate_from 0 image.classes) (trace_part ids image) refl ∙ bodies_of_trace_part ids image is_name_tag refl ∙ bodies_of_skipped_segments ids image is_name_tag refl refl)
+    (bodies_of_other_tag is_name_tag 0x02 (load_body ids image.classes) (enumerate_from 0 image.classes) (trace_part ids image) refl ∙ bodies_of_trace_part ids image is_name_tag refl ∙ bodies_of_skipped_segments ids image is_name_tag refl refl)
     ∙ append-nil (map (name_body ids) (enumerate_from 1 (name_table image.classes)))
 
 pub class_bodies_of_dump : (ids : IdSize) (image : Image) → bodies (λ t. t == 0x02) (records_of ids image) ≡ map (load_body ids image.classes) (enumerate_from 0 image.classes)
@@ -140,9 +140,9 @@ dump_text_is_that_of_records ids image time =
     let end_text : flat_map record_text end_part ≡ record_of 0x2c [] = texts_of_one_tag 0x2c (λ (b : List ℕ). b) ([] ∷ []) [] ∙ append-nil (record_of 0x2c [] ++ []) ∙ append-nil (record_of 0x2c []) in
     let segment_text : flat_map record_text (segment_part ids image) ≡ ss ++ record_of 0x2c [] = texts_of_one_tag 0x1c concat segments end_part ∙ ap (λ (l : List ℕ). ss ++ l) end_text in
     let trace_text : flat_map record_text (trace_part ids image) ≡ record_of 0x05 trace_body ++ (ss ++ record_of 0x2c []) =
-        texts_of_one_tag 0x05 (λ (b : List ℕ). b) (trace_body ∷ []) (segment_part ids image) ∙ ap₂ (λ (a b : List ℕ). a ++ b) (append-nil (record_of 0x05 trace_body)) segment_text in
+    texts_of_one_tag 0x05 (λ (b : List ℕ). b) (trace_body ∷ []) (segment_part ids image) ∙ ap₂ (λ (a b : List ℕ). a ++ b) (append-nil (record_of 0x05 trace_body)) segment_text in
     let class_text : flat_map record_text (class_part ids image) ≡ ls ++ (record_of 0x05 trace_body ++ (ss ++ record_of 0x2c [])) =
-        texts_of_one_tag 0x02 (load_body ids image.classes) classes (trace_part ids image) ∙ ap (λ (l : List ℕ). ls ++ l) trace_text in
+    texts_of_one_tag 0x02 (load_body ids image.classes) classes (trace_part ids image) ∙ ap (λ (l : List ℕ). ls ++ l) trace_text in
     ap (λ (s : List ℕ). (header ids time ++ ns ++ ls ++ record_of 0x05 trace_body) ++ s ++ record_of 0x2c []) (segment_texts segments)
     ∙ dump_regrouped (header ids time) ns ls (record_of 0x05 trace_body) ss (record_of 0x2c [])
     ∙ ap (λ (l : List ℕ). header ids time ++ l) (sym (texts_of_one_tag 0x01 (name_body ids) numbered (class_part ids image) ∙ ap (λ (l : List ℕ). ns ++ l) class_text))

@@ -16,8 +16,8 @@ use Rattle.hprof_image.specs.Parts.{Names, name_in, load_in, class_in, class_of,
 -- ---- what a dump tells
 
 -- the image of these sub-records, with these names
-unfoldable pub image_of : IdSize → Names → List Sub → Option Image
-image_of ids names subs =
+unfoldable pub image_told : IdSize → Names → List Sub → Option Image
+image_told ids names subs =
     let told = filter_map class_in subs in
     do
       classes ← all_there (map (class_of ids names told) told)
@@ -34,7 +34,7 @@ image_in ids records = do
   names ← all_there (map (name_in ids) (bodies (λ t. t == 0x01) records))
   loads ← all_there (map (load_in ids) (bodies (λ t. t == 0x02) records))
   segments ← all_there (map (items_in (sub_parts ids)) (bodies (λ t. t == 0x0c || t == 0x1c) records))
-  image_of ids (record { names = names; loads = loads }) (flat_map (λ s. s) segments)
+  image_told ids (record { names = names; loads = loads }) (flat_map (λ s. s) segments)
 
 -- what a dump tells: its header, and its image
 pub record DumpTold : Type 0 where

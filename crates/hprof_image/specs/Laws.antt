@@ -1,6 +1,9 @@
 -- The laws of what dumps tell.
 use Rattle.std.specs.Prelude.{◌≡◌, ℕ, ◌<◌, ◌^◌, List, ◌++◌, slice_index, Some, Result, Ok}
 use Rattle.heap_class.specs.declared.IdSize.{IdSize}
+use Rattle.heap_world.specs.State.{HeapState}
+use Rattle.heap_world.specs.Legal.{IsLegal}
+use Rattle.heap_pins.specs.Images.{image_of}
 use Rattle.hprof_text.specs.Image.{Image, IsDumpable}
 use Rattle.hprof_text.specs.Fits.{ShowsWhole}
 use Rattle.hprof_text.specs.Segments.{dump_text}
@@ -17,6 +20,12 @@ IsTellable ids image time = IsDumpable image × ShowsWhole ids image × (time < 
 abbrev pub IsTold : IdSize → Image → ℕ → Type 0
 IsTold ids image time =
     IsTellable ids image time → dump_told (dump_text ids image time) ≡ Some (shown ids time image)
+
+-- the dump of a legal heap tells its image
+abbrev pub IsLegalTold : IdSize → HeapState → ℕ → Type 0
+IsLegalTold ids w time =
+    IsLegal w → time < 2 ^ 64
+    → dump_told (dump_text ids (image_of w) time) ≡ Some (shown ids time (image_of w))
 
 -- two images with the same dump, each with its size of identifiers and its time, show the same
 abbrev pub AreShownAlike : IdSize → IdSize → Image → Image → ℕ → ℕ → Type 0

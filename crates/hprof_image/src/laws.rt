@@ -1,6 +1,7 @@
 //! What the dump of an image tells.
 ghost use Rattle.std.specs.Prelude.{ℕ, ◌<◌, ◌^◌};
 ghost use Rattle.heap_class.specs.declared.IdSize.{IdSize};
+ghost use Rattle.heap_world.specs.State.{HeapState};
 ghost use Rattle.hprof_text.specs.Image.{Image};
 ghost use Rattle.hprof_reader.specs.Fields.{own_field_text, FitsOwnField, own_field_parts};
 ghost use Rattle.hprof_reader.specs.Headers.{header_text, header_parts};
@@ -8,7 +9,7 @@ ghost use Rattle.hprof_reader.specs.Reading.{record_parts};
 ghost use Rattle.hprof_reader.specs.Records.{record_text, FitsRecord};
 ghost use Rattle.hprof_reader.specs.SubParts.{sub_parts};
 ghost use Rattle.hprof_reader.specs.SubRecords.{sub_text, FitsSub};
-ghost use Rattle.hprof_image.specs.Laws.{IsTold, AreShownAlike, ReadsTexts};
+ghost use Rattle.hprof_image.specs.Laws.{IsTold, IsLegalTold, AreShownAlike, ReadsTexts};
 
 /// States that the dump of an image, read, tells the image: the size of identifiers and the time; each class with its name, its
 /// super and its own fields; each object with its id, its kind and its words; and each register that isn't null; all in order.
@@ -19,6 +20,15 @@ pub fn dumps_tell_images()
     hprof_text::numbers_fit();
     hprof_text::segments_are_cut();
     hprof_reader::sub_records_are_read();
+}
+
+/// States that the dump of a legal heap, read, tells the heap's image in the same way. The text of each dump is that of a legal
+/// heap.
+pub fn legal_dumps_tell_images()
+    ensures { (ids : IdSize) (w : HeapState) (time : ℕ) → IsLegalTold ids w time }
+{
+    heap_trail::dump_is_whole();
+    dumps_tell_images();
 }
 
 /// States that two images with the same dump have the same classes, but for which are array classes, the same objects, and the

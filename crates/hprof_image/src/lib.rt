@@ -4,4 +4,6 @@
 
 mod laws;
 
-pub use laws::{dumps_tell_images, equal_dumps_show_alike, parts_are_exact};
+pub use laws::{
+    dumps_tell_images, equal_dumps_show_alike, legal_dumps_tell_images, parts_are_exact,
+};

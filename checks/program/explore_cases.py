@@ -112,7 +112,8 @@ def questions(program):
     for path in sorted(TOP.glob("examples/questions/*.session")):
         answers, explored = path.with_suffix(".expected"), path.with_suffix(".explored")
         wanted = (explored if explored.exists() else answers).read_bytes()
-        yield path.stem, run(program, ["explore"], path.read_bytes()), (0, wanted, b"")
+        with tempfile.TemporaryDirectory() as folder:
+            yield path.stem, run(program, ["explore"], path.read_bytes(), cwd=folder), (0, wanted, b"")
         wanted = (0, answers.read_bytes(), b"")
         yield f"{path.stem}, run", run(program, ["run", "--questions", "1"], path.read_bytes()), wanted
     for words in ([], ["--questions", "0"]):

@@ -5,3 +5,4 @@ pub mod FoundNames
 pub mod ToldClasses
 pub mod ToldObjects
 pub mod ToldImages
+pub mod DumpsOfShown

@@ -29,7 +29,7 @@ unfolding slot_table_after slots_under
 slot_table_of_shown_classes above [] = refl
 slot_table_of_shown_classes above (c ∷ classes) = slot_table_of_shown_classes (above ++ slots_under above c ∷ []) classes
 
-shown_classes_have_same_slots : (classes : List Class) (k : ℕ) → slots_of (map class_shown classes) k ≡ slots_of classes k
+pub shown_classes_have_same_slots : (classes : List Class) (k : ℕ) → slots_of (map class_shown classes) k ≡ slots_of classes k
 unfolding slots_of
 shown_classes_have_same_slots classes k = ap (λ (t : List (List Kind)). unwrap_or (slice_get t k) []) (slot_table_of_shown_classes [] classes)
 

@@ -1,5 +1,5 @@
 -- The laws of what dumps tell.
-use Rattle.std.specs.Prelude.{◌≡◌, ℕ, ◌<◌, ◌^◌, List, ◌++◌, slice_index, Some, Result, Ok}
+use Rattle.std.specs.Prelude.{◌≡◌, ◌↔◌, ℕ, ◌<◌, ◌^◌, List, ◌++◌, slice_index, Some, Result, Ok}
 use Rattle.heap_class.specs.declared.IdSize.{IdSize}
 use Rattle.heap_world.specs.State.{HeapState}
 use Rattle.heap_world.specs.Legal.{IsLegal}
@@ -27,11 +27,11 @@ IsLegalTold ids w time =
     IsLegal w → time < 2 ^ 64
     → dump_told (dump_text ids (image_of w) time) ≡ Some (shown ids time (image_of w))
 
--- two images with the same dump, each with its size of identifiers and its time, show the same
+-- two images, each with its size of identifiers and its time, have the same dump exactly if they show the same
 abbrev pub AreShownAlike : IdSize → IdSize → Image → Image → ℕ → ℕ → Type 0
 AreShownAlike ids other a b s t =
-    IsTellable ids a s → IsTellable other b t → dump_text ids a s ≡ dump_text other b t
-    → shown ids s a ≡ shown other t b
+    IsTellable ids a s → IsTellable other b t
+    → (dump_text ids a s ≡ dump_text other b t) ↔ (shown ids s a ≡ shown other t b)
 
 -- ---- what is read
 

@@ -31,8 +31,8 @@ pub fn legal_dumps_tell_images()
     dumps_tell_images();
 }
 
-/// States that two images with the same dump have the same classes, but for which are array classes, the same objects, and the
-/// same registers that aren't null.
+/// States that two images have the same dump exactly if they have the same classes, but for which are array classes, the same
+/// objects, and the same registers that aren't null. So a dump tells all else, and tells no more.
 pub fn equal_dumps_show_alike()
     ensures { (ids other : IdSize) (a b : Image) (s t : ℕ) → AreShownAlike ids other a b s t }
 {

@@ -66,8 +66,8 @@ field_entries_in_shown_classes ids classes [] = refl
 field_entries_in_shown_classes ids classes (f ∷ fs) = ap₂ (λ (n : ℕ) (l : List ℕ). (id ids n ++ u1 (type_code f.kind)) ++ l) (name_id_in_shown_classes classes f.name) (field_entries_in_shown_classes ids classes fs)
 
 -- the sub-record of class k with instances of this size and these fields
-abbrev class_bytes : IdSize → ℕ → Class → ℕ → List ℕ → List ℕ
-class_bytes ids k c size fields =
+abbrev class_bytes_with : IdSize → ℕ → Class → ℕ → List ℕ → List ℕ
+class_bytes_with ids k c size fields =
     u1 0x20 ++ id ids (class_id k) ++ u4 1 ++ id ids (option_map_or class_id c.sup 0)
     ++ id ids 0 ++ id ids 0 ++ id ids 0 ++ id ids 0 ++ id ids 0
     ++ u4 size ++ u2 0 ++ u2 0 ++ u2 (length c.fields)
@@ -75,7 +75,7 @@ class_bytes ids k c size fields =
 
 dump_of_shown_class : (ids : IdSize) (classes : List Class) (k : ℕ) (c : Class) → class_dump ids (map class_shown classes) (k, class_shown c) ≡ class_dump ids classes (k, c)
 unfolding class_dump
-dump_of_shown_class ids classes k c = ap₂ (class_bytes ids k c) (instance_size_in_shown_classes ids classes k) (field_entries_in_shown_classes ids classes c.fields)
+dump_of_shown_class ids classes k c = ap₂ (class_bytes_with ids k c) (instance_size_in_shown_classes ids classes k) (field_entries_in_shown_classes ids classes c.fields)
 
 dump_of_kind_in_shown_classes : (ids : IdSize) (classes : List Class) (x : ℕ) (kind : ObjKind) (words : List ℕ) → dump_of ids (map class_shown classes) x kind words ≡ dump_of ids classes x kind words
 unfolding dump_of
@@ -91,15 +91,15 @@ objects_in_shown_classes ids classes (o ∷ objects) =
     ap₂ (λ (t : List ℕ) (l : List (List (List ℕ))). (t ∷ []) ∷ l) (dump_of_kind_in_shown_classes ids classes o.id o.kind o.words) (objects_in_shown_classes ids classes objects)
 
 -- the sub-records of a register
-abbrev register_item : IdSize → ℕ → List (List ℕ)
-register_item ids x = cond (x == 0) [] (root_unknown ids x ∷ [])
+abbrev records_of_register : IdSize → ℕ → List (List ℕ)
+records_of_register ids x = cond (x == 0) [] (root_unknown ids x ∷ [])
 
-null_registers_have_no_record : (ids : IdSize) (xs : List ℕ) → records_of_items (map (register_item ids) (filter (λ x. not (x == 0)) xs)) ≡ records_of_items (map (register_item ids) xs)
+null_registers_have_no_record : (ids : IdSize) (xs : List ℕ) → records_of_items (map (records_of_register ids) (filter (λ x. not (x == 0)) xs)) ≡ records_of_items (map (records_of_register ids) xs)
 null_registers_have_no_record ids [] = refl
 null_registers_have_no_record ids (x ∷ xs) = by_test (x == 0) refl (null_registers_have_no_record ids xs)
   where
-    by_test : (b : Bool) → (x == 0) ≡ b → records_of_items (map (register_item ids) (filter (λ x. not (x == 0)) xs)) ≡ records_of_items (map (register_item ids) xs)
-        → records_of_items (map (register_item ids) (cond (not b) (x ∷ filter (λ x. not (x == 0)) xs) (filter (λ x. not (x == 0)) xs))) ≡ cond b [] (root_unknown ids x ∷ []) ++ records_of_items (map (register_item ids) xs)
+    by_test : (b : Bool) → (x == 0) ≡ b → records_of_items (map (records_of_register ids) (filter (λ x. not (x == 0)) xs)) ≡ records_of_items (map (records_of_register ids) xs)
+        → records_of_items (map (records_of_register ids) (cond (not b) (x ∷ filter (λ x. not (x == 0)) xs) (filter (λ x. not (x == 0)) xs))) ≡ cond b [] (root_unknown ids x ∷ []) ++ records_of_items (map (records_of_register ids) xs)
     by_test true null later = later
     by_test false other later = ap₂ (λ (b : Bool) (l : List (List ℕ)). cond b [] (root_unknown ids x ∷ []) ++ l) other later
 
@@ -116,7 +116,7 @@ sub_records_of_shown_image ids image =
     let objects : List (List (List ℕ)) = map (λ o. object_dump ids image.classes o ∷ []) image.objects in
     let shown_roots : List (List (List ℕ)) = map (λ c. root_sticky_class ids c.0 ∷ []) (enumerate_from 0 all) in
     let shown_objects : List (List (List ℕ)) = map (λ o. object_dump ids all o ∷ []) image.objects in
-    let shown_registers : List (List ℕ) = records_of_items (map (register_item ids) (filter (λ x. not (x == 0)) image.registers)) in
+    let shown_registers : List (List ℕ) = records_of_items (map (records_of_register ids) (filter (λ x. not (x == 0)) image.registers)) in
     ap (λ (l : List (List (List ℕ))). four_sections l shown_roots shown_objects shown_registers)
     (numbered_shown_classes_mapped (λ c. class_dump ids all c ∷ []) (λ c. class_dump ids image.classes c ∷ []) (λ k c. ap (λ (t : List ℕ). t ∷ []) (dump_of_shown_class ids image.classes k c)) 0 image.classes)
     ∙ ap (λ (l : List (List (List ℕ))). four_sections dumps l shown_objects shown_registers)

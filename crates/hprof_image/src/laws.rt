@@ -22,8 +22,8 @@ pub fn dumps_tell_images()
     hprof_reader::sub_records_are_read();
 }
 
-/// States that the dump of a legal heap, read, tells the heap's image in the same way. The text of each dump is that of a legal
-/// heap.
+/// States that the dump of a legal heap, read, tells the heap's image in the same way. The pieces that a machine's pins give are
+/// those of such dumps.
 pub fn legal_dumps_tell_images()
     ensures { (ids : IdSize) (w : HeapState) (time : ℕ) → IsLegalTold ids w time }
 {
@@ -32,7 +32,8 @@ pub fn legal_dumps_tell_images()
 }
 
 /// States that two images have the same dump exactly if they have the same classes, but for which are array classes, the same
-/// objects, and the same registers that aren't null. So a dump tells all else, and tells no more.
+/// objects, and the same registers that aren't null, and are dumped with the same size of identifiers at the same time. So a
+/// dump tells all this, and no more.
 pub fn equal_dumps_show_alike()
     ensures { (ids other : IdSize) (a b : Image) (s t : ℕ) → AreShownAlike ids other a b s t }
 {

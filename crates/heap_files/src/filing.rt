@@ -3,8 +3,9 @@ ghost use Rattle.std.specs.Prelude.{◌≡◌};
 ghost use Rattle.session_text.specs.Replies.{line_answer_text};
 ghost use Rattle.question_text.specs.FileHelp.{file_help_of};
 ghost use Rattle.heap_files.specs.Filings.{FilingAnswers, HelpsOrAnswers, WritesFile};
+ghost use Rattle.heap_files.specs.Files.{written_text};
 
-use crate::files::{write_dump, write_picture, written_line};
+use crate::files::{Unwritten, write_dump, write_picture, written_line};
 use crate::folder::Folder;
 use heap_step::IntoEvent;
 use heap_trail::{Action, Reply};
@@ -28,7 +29,7 @@ pub struct Filing<'a, F> {
 impl<'a, F: Folder> Filing<'a, F> {
     /// Creates commands that make files in a folder, and tells readers beside the session that its lines write files.
     pub fn new(asking: Asking<'a>, folder: F, time: u64) -> Filing<'a, F>
-        ensures { result ≡ record { asking = asking; folder = folder; time = time } }
+        ensures { result ≡ record { asking = asking.entry; folder = folder; time = time } }
     {
         asking.watch.note_files();
         Filing {
@@ -50,21 +51,42 @@ impl<'a, F: Folder> Filing<'a, F> {
 
     // Answers a line that writes a file.
     fn answer_file(&mut self, alloc: Global, file: FileLine<'_>) -> LineAnswer
-        ensures file { WritesFile F.acts file.content file.path.now self.old
+        ensures file { WritesFile F.acts file.entry.content file.entry.path.now self.old
             (line_answer_text result) self.new.folder }
         ensures others { self.new ≡ record self.old { folder = self.new.folder } }
     {
-        let machine = &self.asking.local.machine;
-        let folder = &mut self.folder;
-        let written = match file.content {
-            FileContent::DumpOf(at) => {
-                write_dump(alloc, machine, at, self.time, folder, file.path)
-            }
-            FileContent::Picture => write_picture(alloc, machine, folder, file.path),
-        };
+        let written = self.write_file(alloc, file);
         let answer = written_line(written);
-        self.asking.watch.note_answer(machine, &answer);
+        self.asking
+            .watch
+            .note_answer(&self.asking.local.machine, &answer);
         answer
+    }
+
+    // Writes what a line asks for to a file. Returns its size.
+    fn write_file(&mut self, alloc: Global, file: FileLine<'_>) -> Result<u64, Unwritten>
+        ensures file { WritesFile F.acts file.entry.content file.entry.path.now self.old
+            (written_text result) self.new.folder }
+        ensures others { self.new ≡ record self.old { folder = self.new.folder } }
+    {
+        let time = self.time;
+        let path = file.path;
+        match file.content {
+            FileContent::DumpOf(at) => write_dump(
+                alloc,
+                &self.asking.local.machine,
+                at,
+                time,
+                &mut self.folder,
+                path,
+            ),
+            FileContent::Picture => write_picture(
+                alloc,
+                &self.asking.local.machine,
+                &mut self.folder,
+                path,
+            ),
+        }
     }
 
     // Answers a line that writes no file.

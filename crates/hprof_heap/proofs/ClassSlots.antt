@@ -92,16 +92,10 @@ one_class_more before c h below = record {
     slots k (inr (inr l)) = slots_past before c k l ∙ ap said (sym (none_past_end before c k l))
 
 -- a super is among the classes before
-super_is_before : (before : List Class) (sup : Option ℕ) → option_map_or (is_instance_class before) sup true ≡ true → (s : ℕ) → sup ≡ Some s → s < length before
-super_is_before before None e s f = let z : None ≡ Some s = f in cc
-super_is_before before (Some r) e s f = let same : r ≡ s = some_number r s f in instance_class_is_in_table before s (ap (is_instance_class before) (sym same) ∙ e)
-  where
-    some_number : (r s : ℕ) → Some r ≡ Some s → r ≡ s
-    some_number r s e = cc
-
 accepted_super : (before : List Class) (c : Class) → class_refusal widest_classes before c ≡ None → (s : ℕ) → c.sup ≡ Some s → s < length before
 unfolding class_refusal
-accepted_super before c accepted = super_is_before before c.sup (not-false (option_map_or (is_instance_class before) c.sup true) (no_refusal_test_holds _ accepted).0)
+accepted_super before c accepted s e =
+    instance_class_is_in_table before s (subst (λ o. option_map_or (is_instance_class before) o true ≡ true) e (not-false (option_map_or (is_instance_class before) c.sup true) (no_refusal_test_holds _ accepted).0))
 
 supers_of_table : (before cs : List Class) → HasSupers before → IsClassTable before cs → HasSupers (before ++ cs)
 supers_of_table before [] h t = subst HasSupers (sym (append-nil before)) h

@@ -83,7 +83,7 @@ pub no_thing : {A : Type 0} (o : Option A) → o ≡ None → IsSome o → ⊥
 no_thing None e h = let z : false ≡ true = h in cc
 no_thing (Some x) e h = let z : Some x ≡ None = e in cc
 
-pub thing_is_there : {A : Type 0} (o : Option A) (x : A) → o ≡ Some x → IsSome o
+pub thing_is_there : (o : Option Thing) (x : Thing) → o ≡ Some x → IsSome o
 thing_is_there None x e = let z : None ≡ Some x = e in cc
 thing_is_there (Some y) x e = refl
 

@@ -92,11 +92,14 @@ ends_with_super p c k (Some s) e h = (front, whole, counted)
 slots_of_fields : (p : Plan) (c k : ℕ) (rest : List Kind) → slots_of p.classes k ≡ map (λ (f : Field). f.kind) (fields_of p.classes k) ++ rest → HasFirstKinds p k → EndsWith p c (Some k)
     → (j : ℕ) (kind : Kind) → 0 + j < length (fields_of p.classes k) → slice_get (kinds_of p k) j ≡ Some kind → slice_get (slots_of p.classes c) (base_of p c k + (0 + j)) ≡ Some kind
 slots_of_fields p c k rest e first h j kind l found =
-    ap (λ ks. slice_get ks (base_of p c k + (0 + j))) h.1 ∙ item_behind_first_list h.0 (slots_of p.classes k) (base_of p c k + (0 + j)) j (omega (arith, h.2)) ∙ ap (λ ks. slice_get ks j) e
+    ap (λ ks. slice_get ks (base_of p c k + (0 + j))) h.1 ∙ ap (slice_get (h.0 ++ slots_of p.classes k)) place ∙ item_behind_first_list h.0 (slots_of p.classes k) j ∙ ap (λ ks. slice_get ks j) e
     ∙ get_append own rest j within ∙ sym (get_append own first.rest j within) ∙ sym (ap (λ ks. slice_get ks j) first.kinds) ∙ found
   where
     own : List Kind
     own = map (λ (f : Field). f.kind) (fields_of p.classes k)
+
+    place : base_of p c k + (0 + j) ≡ length h.0 + j
+    place = omega (arith, h.2)
 
     within : j < length (map (λ (f : Field). f.kind) (fields_of p.classes k))
     within = omega (arith, l, length-map (fields_of p.classes k) (λ (f : Field). f.kind))

@@ -1,8 +1,9 @@
 -- How the references of objects are stored.
 use Rattle.std.proofs.Common.{◌≡◌, ◌≢◌, ℕ, zero, suc, ◌+◌, ◌^◌, ◌<◌, ◌≤◌, Bool, true, false, List, [], ◌∷◌, ◌++◌, length, replicate, refl, sym, ap, subst, ◌∙◌, Option, Some, None, arith}
-use Rattle.std.specs.Prelude.{slice_get, slice_set, flat_map, if◌then◌else◌, ◌||◌}
+use Rattle.std.specs.Prelude.{slice_get, slice_set, flat_map, if◌then◌else◌}
 use Rattle.std.specs.List.{list_any}
 use Rattle.std.specs.Option.{option_map_or}
+use Rattle.std.proofs.lemmas.Bool.{or_parts}
 use Rattle.std.proofs.lemmas.List.{length-replicate}
 use Rattle.heap_class.specs.declared.ObjKind.{ObjKind}
 use Rattle.heap_step.specs.declared.Event.{Event}
@@ -41,8 +42,8 @@ pub record IsFetched (r x : ℕ) (g h : Graph) : Type 0 where
   pub things : (y : ℕ) → h.things y ≡ g.things y
   pub registers : (q : ℕ) → q ≢ 4 → q ≢ r → h.registers q ≡ g.registers q
 
-fetched : (class : ℕ) (role : ℕ → Role) (r m : ℕ) (g f h : Graph) → IsTop class role g m → IsKeeper class role g m → IsLoading 4 (top_of m) (array_slot m) g f → IsLoading r 4 (slot_of m) f h → IsFetched r (kept g m) g h
-fetched class role r m g f h t k p q = record {
+register_names_fetched_object : (class : ℕ) (role : ℕ → Role) (r m : ℕ) (g f h : Graph) → IsTop class role g m → IsKeeper class role g m → IsLoading 4 (top_of m) (array_slot m) g f → IsLoading r 4 (slot_of m) f h → IsFetched r (kept g m) g h
+register_names_fetched_object class role r m g f h t k p q = record {
   held = q.loaded class k.there.0 (ap f.things array ∙ p.things (keeper g m) ∙ k.there.1) k.there.2 ∙ sym (ap (λ o. word_in o (slot_of m)) k.there.1);
   things = λ y. q.things y ∙ p.things y;
   registers = λ i a b. q.registers i b ∙ p.registers i a;
@@ -52,7 +53,7 @@ fetched class role r m g f h t k p q = record {
     array = p.loaded class t.there.0 t.there.1 t.there.2 ∙ sym (ap (λ o. word_in o (array_slot m)) t.there.1)
 
 pub object_is_fetched : (slots : ℕ → ℕ) (class : ℕ) (role : ℕ → Role) (r m : ℕ) (g h : Graph) → IsTop class role g m → IsKeeper class role g m → IsRun slots (fetch_events m r) g h → IsFetched r (kept g m) g h
-object_is_fetched slots class role r m g h t k s = subst (IsFetched r (kept g m) g) s.2.2 (fetched class role r m g s.0 s.2.0 t k s.1 s.2.1)
+object_is_fetched slots class role r m g h t k s = subst (IsFetched r (kept g m) g) s.2.2 (register_names_fetched_object class role r m g s.0 s.2.0 t k s.1 s.2.1)
 
 pub fetching_fills : (z r x : ℕ) (kind : ObjKind) (old : List ℕ) (g h : Graph) → 4 ≤ r → g.things z ≡ Some (record { kind = kind; words = old }) → IsFetched r x g h → IsFilling z kind old old g h
 fetching_fills z r x kind old g h high before p = nothing_filled z kind old g h before p.things (λ q l. p.registers q (λ e. omega (arith, l, e)) (λ e. omega (arith, l, e, high)))
@@ -173,10 +174,6 @@ link_values name n values = if list_any names_object values then fetch_events n 
 abbrev pub link_block : (ℕ → Option ℕ) → ℕ → Option ObjectTold → List Event
 link_block name n None = []
 link_block name n (Some t) = link_values name n t.values
-
-or_parts : (a b : Bool) → (a || b) ≡ false → (a ≡ false) × (b ≡ false)
-or_parts true b e = let z : true ≡ false = e in cc
-or_parts false b e = (refl, e)
 
 no_references : (name : ℕ → Option ℕ) (id : ℕ → ℕ) (values : List SlotValue) (words : List ℕ) → list_any names_object values ≡ false → with_references name id words values ≡ words
 no_references name id [] words e = refl

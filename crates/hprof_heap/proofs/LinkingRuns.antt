@@ -1,4 +1,4 @@
--- The events that store references and keep roots can run.
+-- The events that store references can run.
 use Rattle.std.proofs.Common.{◌≡◌, ℕ, suc, ◌+◌, ◌<◌, Bool, true, false, List, [], ◌∷◌, ◌++◌, length, refl, sym, ap, subst, ◌∙◌, Option, Some, None, arith}
 use Rattle.std.specs.Prelude.{not, flat_map, ◌==◌, if◌then◌else◌}
 use Rattle.std.specs.List.{list_any}
@@ -13,10 +13,11 @@ use Rattle.hprof_lines.specs.declared.values.SlotValue.{SlotValue}
 use Rattle.hprof_lines.specs.Objects.{names_object, stored}
 use Rattle.hprof_heap.specs.ToldObjects.{ObjectTold}
 use Rattle.hprof_heap.proofs.Graphs.{Graph, word_in, IsLoading}
-use Rattle.hprof_heap.proofs.PlaceNumbers.{few_arrays, few_slots, few_tops}
+use Rattle.hprof_heap.proofs.PlaceNumbers.{few_arrays, few_slots}
 use Rattle.hprof_heap.proofs.Placed.{IsKeeper, IsPlaceArray, IsTop, Object, Role, keeper, kept}
 use Rattle.hprof_heap.proofs.Making.{made_thing}
 use Rattle.hprof_heap.proofs.Linking.{AreAsMade, AreFound, AreNamed, AreThere, block_is_linked, fetching_fills, first_is_there, for_its_number, found_after_filling, length_made, link_block, link_reference, link_values, linkings, object_is_fetched, others_are_there, plus_one, reference_of, with_reference}
+use Rattle.hprof_heap.proofs.RootSteps.{few_of}
 use Rattle.hprof_heap.proofs.Acceptable.{CanRun, HasSlotOf, can_run_both}
 use Rattle.hprof_heap.proofs.MakingRuns.{FitSlots, FitsSlot, MayAllBeTold, MayBeTold, array_has_slot, can_run_if}
 
@@ -31,9 +32,6 @@ fetch_can_run classes most slots class role r m g few small t k =
         let four : h.registers 4 ≡ keeper g m = s.loaded class t.there.0 t.there.1 t.there.2 ∙ sym (ap (λ o. word_in o (array_slot m)) t.there.1) in
         array_has_slot classes class 1024 h (h.registers 4) (slot_of m) (few_slots m) (subst (IsPlaceArray class h) (sym four) (k.there.0, s.things (keeper g m) ∙ k.there.1, k.there.2, k.there.3))
 
-few_of_found : (class : ℕ) (made : ℕ → Bool) (last : ℕ) (id : ℕ → ℕ) (role : ℕ → Role) (g : Graph) (m : ℕ) → AreFound class made last id role g → m < last → top_of m < 4
-few_of_found class made last id role g m a l = few_tops m (omega (arith, l, a.few))
-
 -- ---- references
 
 reference_kind : (v : SlotValue) → names_object v ≡ true → is_reference v.kind ≡ true
@@ -43,7 +41,7 @@ reference_kind v e = (and_parts (is_reference v.kind) (not (v.value == 0)) e).0
 stored_can_run : (classes : List Class) (most : ℕ) (slots : ℕ → ℕ) (class : ℕ) (made : ℕ → Bool) (last z : ℕ) (id : ℕ → ℕ) (role : ℕ → Role) (kind : ObjKind) (old : List ℕ) (v : SlotValue) (k : ℕ) (g : Graph)
     → AreFound class made last id role g → k < last → g.registers 5 ≡ z → g.things z ≡ Some (record { kind = kind; words = old }) → FitsSlot classes kind (length old) v → is_reference v.kind ≡ true → CanRun classes most slots (stored v.slot (Some k)) g
 stored_can_run classes most slots class made last z id role kind old v k g a l held before f reference =
-    can_run_both classes most slots (fetch_events k 6) (Store 0 5 v.slot 6 ∷ []) g (fetch_can_run classes most slots class role 6 k g (omega arith) (few_of_found class made last id role g k a l) (a.tops k l) (a.keepers k l))
+    can_run_both classes most slots (fetch_events k 6) (Store 0 5 v.slot 6 ∷ []) g (fetch_can_run classes most slots class role 6 k g (omega arith) (few_of class made last id role g k a l) (a.tops k l) (a.keepers k l))
     (λ h r. (let p = object_is_fetched slots class role 6 k g h (a.tops k l) (a.keepers k l) r in
     let five : h.registers 5 ≡ z = p.registers 5 (omega arith) (omega arith) ∙ held in
     ((omega arith, omega arith, (v.kind, (record { kind = kind; words = old }, ap h.things five ∙ p.things z ∙ before, f.slot), reference)), λ i s. tt)))
@@ -75,7 +73,7 @@ link_can_run : (classes : List Class) (most : ℕ) (slots : ℕ → ℕ) (class 
     → CanRun classes most slots (link_values name n values) g
 link_can_run classes most slots class made last n name id role kind values old g named l b a before f =
     can_run_if classes most slots (list_any names_object values) (fetch_events n 5 ++ flat_map (reference_of name) values) g
-    (can_run_both classes most slots (fetch_events n 5) (flat_map (reference_of name) values) g (fetch_can_run classes most slots class role 5 n g (omega arith) (few_of_found class made last id role g n a l) (a.tops n l) (a.keepers n l))
+    (can_run_both classes most slots (fetch_events n 5) (flat_map (reference_of name) values) g (fetch_can_run classes most slots class role 5 n g (omega arith) (few_of class made last id role g n a l) (a.tops n l) (a.keepers n l))
     (λ h r. (let p = object_is_fetched slots class role 5 n g h (a.tops n l) (a.keepers n l) r in
     let first = fetching_fills (id n) 5 (kept g n) kind old g h (omega arith) before p in
     let for = for_its_number class made last id role g n a l b in

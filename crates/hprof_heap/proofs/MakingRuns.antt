@@ -22,7 +22,7 @@ use Rattle.hprof_heap.proofs.Making.{IsKeeperReady, IsSized, block_is_made, crea
 use Rattle.hprof_heap.proofs.MakingPass.{AreRight, makings, past_block_is_empty, block_below_last}
 use Rattle.hprof_heap.proofs.Acceptable.{CanRun, CanStep, HasSlotOf, can_run_both}
 
-pub copies_are_there : {A : Type 0} (x : A) (n i : ℕ) → i < n → slice_get (replicate n x) i ≡ Some x
+pub copies_are_there : (x : Kind) (n i : ℕ) → i < n → slice_get (replicate n x) i ≡ Some x
 copies_are_there x zero i l = absurd (omega (arith, l))
 copies_are_there x (suc n) zero l = refl
 copies_are_there x (suc n) (suc i) l = copies_are_there x n i (omega (arith, l))

@@ -5,7 +5,7 @@ use Rattle.std.specs.Global.{Vec}
 use Rattle.std.specs.Map.{values_of}
 use Rattle.std.specs.Option.{option_map_or}
 use Rattle.std.proofs.lemmas.Option.{slice_get_within}
-use Rattle.std.proofs.lemmas.List.{append-nil, length-map}
+use Rattle.std.proofs.lemmas.List.{append-nil, length-map, map-append}
 use Rattle.heap_class.specs.declared.ClassLimits.{ClassLimits}
 use Rattle.heap_class.specs.declared.Field.{Field}
 use Rattle.heap_class.specs.declared.Kind.{Kind}
@@ -126,7 +126,7 @@ root_class_at limits f p j c l =
     let name = item_within root_names j l in
     let at = added_at (λ (done : List Class) (n : List ℕ). array_class (next_name limits done n)) (dump_part limits f ++ static_part limits f) root_names j name.0 name.1 in
     ap (λ o. option_map_or (λ (d : Class). d.is_array) o false)
-    (ap (λ cs. slice_get cs (p.roots + j)) c.classes ∙ item_behind_first_list (dump_part limits f ++ static_part limits f) (root_part limits f) (p.roots + j) j (ap (λ n. n + j) c.roots) ∙ at.1)
+    (ap (λ cs. slice_get cs (p.roots + j)) c.classes ∙ ap (slice_get ((dump_part limits f ++ static_part limits f) ++ root_part limits f)) (ap (λ n. n + j) c.roots) ∙ item_behind_first_list (dump_part limits f ++ static_part limits f) (root_part limits f) j ∙ at.1)
 
 kinds_of_roots : (limits : ClassLimits) (f : Found) (p : Plan) (j : ℕ) (tags : List ℕ) → IsCounted limits f p → j + length tags ≤ 10 → AreArrayClasses p.classes (p.roots + j) tags
 kinds_of_roots limits f p j [] c l = tt
@@ -188,7 +188,7 @@ static_class_at limits f p n e c found = record {
     here =
         ap (λ cs. slice_get cs (length p.kinds.entries + n)) c.classes
         ∙ get_append (dump_part limits f ++ static_part limits f) (root_part limits f) (length p.kinds.entries + n) (omega (arith, few, c.of_dump, length-append (dump_part limits f) (static_part limits f)))
-        ∙ item_behind_first_list (dump_part limits f) (static_part limits f) (length p.kinds.entries + n) n (ap (λ m. m + n) (sym c.of_dump)) ∙ at.1
+        ∙ ap (slice_get (dump_part limits f ++ static_part limits f)) (ap (λ m. m + n) (sym c.of_dump)) ∙ item_behind_first_list (dump_part limits f) (static_part limits f) n ∙ at.1
 
 -- ---- a class of the dump
 
@@ -201,10 +201,6 @@ taken_front : {A : Type 0} (n : ℕ) (xs : List A) → (rest : List A) × (xs �
 taken_front zero xs = (xs, refl)
 taken_front (suc n) [] = ([], refl)
 taken_front (suc n) (x ∷ xs) = let t = taken_front n xs in (t.0, ap (λ ys. x ∷ ys) t.1)
-
-map_parts : {A B : Type 0} (f : A → B) (xs ys : List A) → map f (xs ++ ys) ≡ map f xs ++ map f ys
-map_parts f [] ys = refl
-map_parts f (x ∷ xs) ys = ap (λ zs. f x ∷ zs) (map_parts f xs ys)
 
 -- the kinds of a class that comes after others, and those of its record
 class_has_first_kinds : (limits : ClassLimits) (f : Found) (before : List (ℕ × Class)) (id : ℕ) → (rest : List Kind) × (kinds_in f id ≡ map (λ (g : Field). g.kind) (class_after limits f before id).fields ++ rest)
@@ -222,7 +218,7 @@ class_has_first_kinds limits f before id = go (is_array_in f id)
     go true = ([], refl)
     go false = (
       map (λ (g : OwnField). g.kind) front.0,
-      ap (map (λ (g : OwnField). g.kind)) front.1 ∙ map_parts (λ (g : OwnField). g.kind) own front.0 ∙ ap (λ ks. ks ++ map (λ (g : OwnField). g.kind) front.0) (sym (own_kinds limits (names_told f.names.entries) own)),
+      ap (map (λ (g : OwnField). g.kind)) front.1 ∙ map-append (λ (g : OwnField). g.kind) own front.0 ∙ ap (λ ks. ks ++ map (λ (g : OwnField). g.kind) front.0) (sym (own_kinds limits (names_told f.names.entries) own)),
     )
 
 pub dump_class_at : (limits : ClassLimits) (most : ℕ) (f : Found) (p : Plan) (k : ℕ) → IsPlan limits most f p → IsCounted limits f p → k < length p.kinds.entries → HasFirstKinds p k

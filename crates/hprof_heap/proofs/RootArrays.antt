@@ -185,8 +185,8 @@ root_named class made last id roots kind first count numbers i x n role g f k h 
     slot : ℕ
     slot = first + i / 1024
 
-    fetched : Spares slot x p.after p.after f k
-    fetched = spares_nothing slot x p.after f k t.things
+    register_names_fetched_object : Spares slot x p.after p.after f k
+    register_names_fetched_object = spares_nothing slot x p.after f k t.things
 
     five : k.registers 5 ≡ word k x (first + i / 1024)
     five = t.registers 5 (omega arith) (omega arith) ∙ p.current ∙ sym (ap (λ o. word_in o (first + i / 1024)) (t.things x))

@@ -137,10 +137,10 @@ pub record AreRootsDone (id : ℕ → ℕ) (named : ℕ → List ℕ) (roots : �
   pub kept : AreKindsKept id named (roots + 1) 0 tags (h.registers 7) after h
   pub cleared : (q : ℕ) → q < 7 → h.registers q ≡ 0
 
-zeros : (n s : ℕ) → slice_index (replicate n 0) s ≡ 0
-zeros zero s = refl
-zeros (suc n) zero = refl
-zeros (suc n) (suc s) = zeros n s
+new_words_are_null : (n s : ℕ) → slice_index (replicate n 0) s ≡ 0
+new_words_are_null zero s = refl
+new_words_are_null (suc n) zero = refl
+new_words_are_null (suc n) (suc s) = new_words_are_null n s
 
 -- the array of roots, when it is new
 pub roots_begin : (class : ℕ) (made : ℕ → Bool) (last : ℕ) (id : ℕ → ℕ) (roots n : ℕ) (role : ℕ → Role) (g f : Graph) → n ≡ 1024 → AreFound class made last id role g → IsCreation 7 (Array roots) n g f
@@ -152,7 +152,7 @@ roots_begin class made last id roots n role g f e a c = record {
     array = (record { kind = Array roots; words = replicate n 0 }, c.here, refl, length-replicate n 0 ∙ e);
     purpose = changed_here role (f.registers 7) Roots;
   };
-  empty = λ s l. ap (λ o. word_in o s) c.here ∙ zeros n s;
+  empty = λ s l. ap (λ o. word_in o s) c.here ∙ new_words_are_null n s;
 }
 
 creation_leaves_objects : (roots n : ℕ) (role : ℕ → Role) (g f : Graph) → IsCreation 7 (Array roots) n g f → (y m : ℕ) → IsSome (g.things y) → role y ≡ Object m

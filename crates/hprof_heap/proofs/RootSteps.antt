@@ -21,7 +21,7 @@ found_moves class made last n id role after g h moves stays a = record {
   ids = λ m l. (stays m l).object_stays ∙ a.ids m l;
 }
 
-few_of : (class : ℕ) (made : ℕ → Bool) (last : ℕ) (id : ℕ → ℕ) (role : ℕ → Role) (g : Graph) (m : ℕ) → AreFound class made last id role g → m < last → top_of m < 4
+pub few_of : (class : ℕ) (made : ℕ → Bool) (last : ℕ) (id : ℕ → ℕ) (role : ℕ → Role) (g : Graph) (m : ℕ) → AreFound class made last id role g → m < last → top_of m < 4
 few_of class made last id role g m a l = few_tops m (omega (arith, l, a.few))
 
 pub found_after_creation : (class : ℕ) (made : ℕ → Bool) (last : ℕ) (id : ℕ → ℕ) (role : ℕ → Role) (a : Role) (r : ℕ) (kind : ObjKind) (len : ℕ) (g h : Graph) → 4 ≤ r → IsCreation r kind len g h → AreFound class made last id role g

@@ -101,22 +101,22 @@ taken_once (suc n) [] a = tt
 taken_once (suc n) (e ∷ es) a = (taken_not_in e.0 n es a.0, taken_once n es a.1)
 
 -- what stands for these ids, as far as a test passes
-abbrev chosen : {V : Type 0} → (ℕ × V → Bool) → (ℕ → V) → List ℕ → List (ℕ × V)
-chosen test f ids = filter test (map (λ id. (id, f id)) ids)
+abbrev entries_that_pass : {V : Type 0} → (ℕ × V → Bool) → (ℕ → V) → List ℕ → List (ℕ × V)
+entries_that_pass test f ids = filter test (map (λ id. (id, f id)) ids)
 
-chosen_not_in : {V : Type 0} (test : ℕ × V → Bool) (f : ℕ → V) (x : ℕ) (ids : List ℕ) → is_in x ids ≡ false → is_in x (keys_of (chosen test f ids)) ≡ false
+chosen_not_in : {V : Type 0} (test : ℕ × V → Bool) (f : ℕ → V) (x : ℕ) (ids : List ℕ) → is_in x ids ≡ false → is_in x (keys_of (entries_that_pass test f ids)) ≡ false
 chosen_not_in test f x [] a = refl
 chosen_not_in test f x (id ∷ ids) a = go (test (id, f id)) (chosen_not_in test f x ids (or_parts (nat_eq x id) (is_in x ids) a).1)
   where
-    go : (b : Bool) → is_in x (keys_of (chosen test f ids)) ≡ false → is_in x (keys_of (cond b ((id, f id) ∷ chosen test f ids) (chosen test f ids))) ≡ false
-    go true rest = or_from (nat_eq x id) (is_in x (keys_of (chosen test f ids))) (or_parts (nat_eq x id) (is_in x ids) a).0 rest
+    go : (b : Bool) → is_in x (keys_of (entries_that_pass test f ids)) ≡ false → is_in x (keys_of (cond b ((id, f id) ∷ entries_that_pass test f ids) (entries_that_pass test f ids))) ≡ false
+    go true rest = or_from (nat_eq x id) (is_in x (keys_of (entries_that_pass test f ids))) (or_parts (nat_eq x id) (is_in x ids) a).0 rest
     go false rest = rest
 
-chosen_once : {V : Type 0} (test : ℕ × V → Bool) (f : ℕ → V) (ids : List ℕ) → AreOnce ids → AreOnce (keys_of (chosen test f ids))
+chosen_once : {V : Type 0} (test : ℕ × V → Bool) (f : ℕ → V) (ids : List ℕ) → AreOnce ids → AreOnce (keys_of (entries_that_pass test f ids))
 chosen_once test f [] a = tt
 chosen_once test f (id ∷ ids) a = go (test (id, f id)) (chosen_once test f ids a.1)
   where
-    go : (b : Bool) → AreOnce (keys_of (chosen test f ids)) → AreOnce (keys_of (cond b ((id, f id) ∷ chosen test f ids) (chosen test f ids)))
+    go : (b : Bool) → AreOnce (keys_of (entries_that_pass test f ids)) → AreOnce (keys_of (cond b ((id, f id) ∷ entries_that_pass test f ids) (entries_that_pass test f ids)))
     go true rest = (chosen_not_in test f id ids a.0, rest)
     go false rest = rest
 

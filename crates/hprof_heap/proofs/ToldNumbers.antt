@@ -172,10 +172,12 @@ there_within (x ∷ xs) (suc i) e = let l : i < length xs = there_within xs i e 
 
 -- ---- numbers that are named
 
-pub item_behind_first_list : {A : Type 0} (xs ys : List A) (k i : ℕ) → k ≡ length xs + i → slice_get (xs ++ ys) k ≡ slice_get ys i
-item_behind_first_list [] ys k i e = ap (slice_get ys) (e ∙ omega arith)
-item_behind_first_list (x ∷ xs) ys zero i e = absurd (omega (arith, e))
-item_behind_first_list (x ∷ xs) ys (suc k) i e = item_behind_first_list xs ys k i (omega (arith, e))
+pub item_behind_first_list : {A : Type 0} (xs ys : List A) (i : ℕ) → slice_get (xs ++ ys) (length xs + i) ≡ slice_get ys i
+item_behind_first_list [] ys i = ap (slice_get ys) (omega arith)
+item_behind_first_list (x ∷ xs) ys i = ap (slice_get (x ∷ (xs ++ ys))) (suc_out (length xs) i) ∙ item_behind_first_list xs ys i
+  where
+    suc_out : (n i : ℕ) → suc n + i ≡ suc (n + i)
+    suc_out n i = omega arith
 
 there_by_test : (list : List (Option ObjectTold)) (i : ℕ) → slice_index_or (map is_some list) i false ≡ is_there (slice_get list i)
 there_by_test [] i = refl
@@ -197,11 +199,14 @@ named_is_there o items x k a made = go (position (nat_eq x) o.objects)
 
     by_test : (i : ℕ) (b : Bool) → slice_index_or o.made i false ≡ b → (if b then Some (length o.statics + i) else None) ≡ Some k → is_there (slice_get (objects_of_dump o items) k) ≡ true
     by_test i true e f =
-        ap is_there (item_behind_first_list (statics_told o.plan 0 o.plan.statics.items) (told_from o 0 items) k i (omega (arith, is_number f, a.as_many, length_of_statics o.plan 0 o.plan.statics.items)))
+        ap is_there (ap (slice_get (objects_of_dump o items)) (place f) ∙ item_behind_first_list (statics_told o.plan 0 o.plan.statics.items) (told_from o 0 items) i)
         ∙ sym (there_by_test (told_from o 0 items) i) ∙ sym (ap (λ bs. slice_index_or bs i false) (made ∙ made_is_told o 0 items)) ∙ e
       where
         is_number : Some (length o.statics + i) ≡ Some k → length o.statics + i ≡ k
         is_number f = cc
+
+        place : Some (length o.statics + i) ≡ Some k → k ≡ length (statics_told o.plan 0 o.plan.statics.items) + i
+        place f = omega (arith, is_number f, a.as_many, length_of_statics o.plan 0 o.plan.statics.items)
     by_test i false e f = let z : None ≡ Some k = f in cc
 
     go : (p : Option ℕ) → numbered o x p ≡ Some k → is_there (slice_get (objects_of_dump o items) k) ≡ true

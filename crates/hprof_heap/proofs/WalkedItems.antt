@@ -1,5 +1,5 @@
 -- The items that a walk comes to: there is one list of them, and what they tell are bytes.
-use Rattle.std.proofs.Common.{◌≡◌, ◌≢◌, ℕ, ◌<◌, Bool, true, false, List, [], ◌∷◌, ◌++◌, length, refl, sym, ap, subst, ◌∙◌, Option, Some, None, Result, Ok, arith, length-append}
+use Rattle.std.proofs.Common.{◌≡◌, ◌≢◌, ℕ, Bool, true, false, List, [], ◌∷◌, ◌++◌, length, refl, sym, ap, subst, ◌∙◌, Option, Some, None, Result, Ok, arith}
 use Rattle.std.specs.Prelude.{◌==◌, ◌||◌, if◌then◌else◌}
 use Rattle.heap_class.specs.declared.IdSize.{IdSize}
 use Rattle.heap_class.specs.Kinds.{type_code}
@@ -21,13 +21,6 @@ use Rattle.hprof_heap.proofs.Premises.{AreBytes, AreItemBytes, AreItemsOfBytes, 
 use Rattle.hprof_heap.proofs.ValueRanges.{bytes_before, bytes_behind}
 
 -- ---- one item is next
-
-sub_text_is_not_empty : (ids : IdSize) (s : Sub) → 0 < length (sub_text ids s)
-sub_text_is_not_empty ids (root tag x more) = omega arith
-sub_text_is_not_empty ids (class c) = omega arith
-sub_text_is_not_empty ids (instance x trace k values) = omega arith
-sub_text_is_not_empty ids (array x trace count k elements) = omega arith
-sub_text_is_not_empty ids (prim x trace count kind elements) = omega arith
 
 one_value : {A : Type 0} (r : Result (A × List ℕ) Fault) (x y : A × List ℕ) → r ≡ Ok x → r ≡ Ok y → x ≡ y
 one_value r x y e f = let z : Ok x ≡ Ok y = sym e ∙ f in cc
@@ -57,7 +50,7 @@ records_are_one w r q u v a b = record {
     same = one_value (record_parts w.rest) (r, u.rest) (q, v.rest) (ap record_parts a.rest ∙ record_reader.again r u.rest a.fits) (ap record_parts b.rest ∙ record_reader.again q v.rest b.fits)
 
 segment_goes_on : (w : Left) (s : Sub) (u : Left) → IsNextSub w s u → w.segment ≢ []
-segment_goes_on w s u p e = omega (arith, sub_text_is_not_empty w.ids s, ap length (sym e ∙ p.segment), length-append (sub_text w.ids s) u.segment)
+segment_goes_on w s u p e = omega (arith, next_item_leaves_fewer_bytes w (sub_told s) u p, ap length e, ap length p.rest)
 
 next_is_one : (w : Left) (i j : ItemTold) (u v : Left) → IsNext w i u → IsNext w j v → AreOneNext i j u v
 next_is_one w (record_told r) (record_told q) u v a b = records_are_one w r q u v a b
@@ -90,15 +83,15 @@ whole_walk_has_tables w items f whole finds =
 
 -- ---- bytes
 
-sub_text_has_bytes : (ids : IdSize) (s : Sub) → AreBytes (sub_text ids s) → AreSubBytes s
-sub_text_has_bytes ids (root tag x more) b = tt
-sub_text_has_bytes ids (class c) b =
+sub_text_of_bytes_tells_bytes : (ids : IdSize) (s : Sub) → AreBytes (sub_text ids s) → AreSubBytes s
+sub_text_of_bytes_tells_bytes ids (root tag x more) b = tt
+sub_text_of_bytes_tells_bytes ids (class c) b =
     let text = bytes_behind (u1 0x20) (class_text ids c) b in
     let front = bytes_before (head_text ids c.head ++ entries_text c.constants ++ entries_text c.statics) (entries_text c.fields) text in
     bytes_behind (u2 c.statics.count) c.statics.bytes (bytes_behind (head_text ids c.head ++ entries_text c.constants) (entries_text c.statics) front)
-sub_text_has_bytes ids (instance x trace k values) b = bytes_behind (u1 0x21 ++ id ids x ++ u4 trace ++ id ids k ++ u4 (length values)) values b
-sub_text_has_bytes ids (array x trace count k elements) b = tt
-sub_text_has_bytes ids (prim x trace count kind elements) b = bytes_behind (u1 0x23 ++ id ids x ++ u4 trace ++ u4 count ++ u1 (type_code kind)) elements b
+sub_text_of_bytes_tells_bytes ids (instance x trace k values) b = bytes_behind (u1 0x21 ++ id ids x ++ u4 trace ++ id ids k ++ u4 (length values)) values b
+sub_text_of_bytes_tells_bytes ids (array x trace count k elements) b = tt
+sub_text_of_bytes_tells_bytes ids (prim x trace count kind elements) b = bytes_behind (u1 0x23 ++ id ids x ++ u4 trace ++ u4 count ++ u1 (type_code kind)) elements b
 
 -- what is left of a dump are bytes
 pub record IsLeftBytes (w : Left) : Type 0 where
@@ -111,7 +104,7 @@ no_bytes i = omega arith
 next_has_bytes : (w : Left) (i : ItemTold) (v : Left) → IsNext w i v → IsLeftBytes w → AreItemBytes i × IsLeftBytes v
 next_has_bytes w (sub_told s) v next b =
     let segment : AreBytes (sub_text w.ids s ++ v.segment) = subst AreBytes next.segment b.segment in
-    (sub_text_has_bytes w.ids s (bytes_before (sub_text w.ids s) v.segment segment), record { segment = bytes_behind (sub_text w.ids s) v.segment segment; rest = subst AreBytes (sym next.rest) b.rest })
+    (sub_text_of_bytes_tells_bytes w.ids s (bytes_before (sub_text w.ids s) v.segment segment), record { segment = bytes_behind (sub_text w.ids s) v.segment segment; rest = subst AreBytes (sym next.rest) b.rest })
 next_has_bytes w (record_told r) v next b = (
   tt,
   record {

@@ -156,8 +156,9 @@ bare_registers w bare i = elim (cases_eq (slice_index w.registers i) 0) [
 
 -- the parts lead to the heap of the dump
 parts_make_heap : (o : ObjectsTold) (items : List ItemTold) (found : List RootFound) (w v : HeapState) → AreNumberedFirst o → o.made ≡ made_from o.plan o.objects (length o.statics) 0 items → AreFine (slots_in w) 0 (objects_of_dump o items)
-    → ((i : ℕ) → 8 ≤ i → slice_index v.registers i ≡ 0) → AreParts (slots_in w) o items found (graph_of w) (graph_of v) → IsHeapOfDump o items found v
-parts_make_heap o items found w v numbered made_told fine others p = record {
+    → v.classes ≡ o.plan.classes → ((i : ℕ) → 8 ≤ i → slice_index v.registers i ≡ 0) → AreParts (slots_in w) o items found (graph_of w) (graph_of v) → IsHeapOfDump o items found v
+parts_make_heap o items found w v numbered made_told fine classes others p = record {
+  classes = classes;
   id = id;
   objects = λ n t e. object_of_graph_is_told v o id (id n) t
       (rooted.objects (id n) n (object_there n t e) (for_its_number o.plan.roots made m.last id m.after p.later n linked.found (below n t e) (is_made n t e)) ∙ linked_at n t e)
@@ -218,7 +219,7 @@ session_makes_heap p ids objects items found w numbered bare classes taken =
     subst (λ es. IsHeapOfDump o items found (state_after_all es w)) (sym same)
     (parts_make_heap o items found w (state_after_all parts w) numbered refl
     (objects_are_fine (slots_in w) o items (λ c. ap (λ cs. length (slots_of cs c)) classes) (subst (λ cs. HaveSlots cs) classes (table_has_slots w.classes bare.legal.classes)) numbered)
-    (λ i high. run.others i high ∙ bare_registers w bare i)
+    (run.classes ∙ classes) (λ i high. run.others i high ∙ bare_registers w bare i)
     (run_has_parts (slots_in w) o items found (graph_of w) (graph_of (state_after_all parts w)) run.run))
 
 -- by what a walk finds, and the plan of its classes

@@ -55,9 +55,10 @@ AreKindsOfRoots o id w found roots kind first (tag ∷ tags) =
 
 -- ---- the whole
 
--- the heap has the objects that the records of a dump tell, each once, and register 7 of mutator 0 names the array of its roots;
--- all other registers are null
+-- the heap has the classes of the plan and the objects that the records of a dump tell, each once, and register 7 of mutator 0
+-- names the array of its roots; all other registers are null
 pub record IsHeapOfDump (o : ObjectsTold) (items : List ItemTold) (found : List RootFound) (w : HeapState) : Type 0 where
+  pub classes : w.classes ≡ o.plan.classes
   pub id : ℕ → ℕ
   pub objects : (n : ℕ) (t : ObjectTold) → slice_get (objects_of_dump o items) n ≡ Some (Some t)
       → IsObjectTold o id w (id n) t

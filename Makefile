@@ -103,21 +103,23 @@ CLIENT := $(wildcard clients/python/*.py clients/python/*.toml clients/python/he
 BINDIR = $(DESTDIR)$(PREFIX)/bin
 MANDIR = $(DESTDIR)$(PREFIX)/share/man/man1
 BASHDIR = $(DESTDIR)$(PREFIX)/share/bash-completion/completions
+WORDDIR = $(DESTDIR)$(PREFIX)/share/heapdbg
 DOCDIR = $(DESTDIR)$(PREFIX)/share/doc/heapdbg
 
-# Installs what `make build` or `make test` left: the program, the script beside it, its manual page, completions for bash, the
-# documents, the examples and the clients in Python and C.
+# Installs what `make build` or `make test` left: the program, the script beside it and its words, its manual page, completions
+# for bash, the documents, the examples and the clients in Python and C.
 install: ## installs the programs and all that belongs to them below PREFIX
 	install -D bin/heapdbg $(BINDIR)/heapdbg
 	install bin/heapdbg-import $(BINDIR)/heapdbg-import
 	install scripts/heapdbg-explore $(BINDIR)/heapdbg-explore
 	install -D -m 644 man/heapdbg.1 $(MANDIR)/heapdbg.1
 	install -D -m 644 completions/heapdbg.bash $(BASHDIR)/heapdbg
+	install -D -m 644 completions/explore.words $(WORDDIR)/explore.words
 	for each in $(PAGES) $(EXAMPLES) $(CLIENT); do install -D -m 644 $$each $(DOCDIR)/$$each || exit 1; done
 	cd $(DOCDIR) && sed -i 's:bin/heapdbg\(-import\)* \([a-z/]\):heapdbg\1 \2:g' $(PAGES)
 
 uninstall: ## removes what was installed
-	rm -f $(BINDIR)/heapdbg $(BINDIR)/heapdbg-import $(BINDIR)/heapdbg-explore $(MANDIR)/heapdbg.1 $(BASHDIR)/heapdbg
+	rm -f $(BINDIR)/heapdbg $(BINDIR)/heapdbg-import $(BINDIR)/heapdbg-explore $(MANDIR)/heapdbg.1 $(BASHDIR)/heapdbg $(WORDDIR)/explore.words
 	rm -rf $(DOCDIR)
 
 # Packs the same into dist/, with an account of the gate: only the program that passed it at this commit.

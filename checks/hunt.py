@@ -3,8 +3,8 @@
 
 Usage: checks/hunt.py [PROGRAM ..]
 Each hunt explores a file. In its blocks a line after `> ` is given to `heapdbg explore`; the lines below it are the answer that
-must come, where `..` stands for any lines. A hunt has at most ten questions. Prints a line for each difference and ends with
-status 1 if there is one."""
+a terminal must show, where `..` stands for any lines. Elsewhere the same answer must come without headings and columns. A hunt
+has at most ten questions. Prints a line for each difference and ends with status 1 if there is one."""
 import os
 import pathlib
 import re
@@ -12,10 +12,11 @@ import subprocess
 import sys
 
 TOP = pathlib.Path(__file__).resolve().parent.parent
-sys.path.insert(0, str(TOP / "checks/model"))
+sys.path[:0] = [str(TOP / "checks/model"), str(TOP / "checks/program")]
 
 from machine import Machine  # noqa: E402
 from questions import Asking  # noqa: E402
+from terminal_cases import typed  # noqa: E402
 
 SECONDS = 20
 KEEP = 4096
@@ -45,9 +46,22 @@ def hunts():
     return found
 
 
+def rows_of(shown):
+    """Returns the lines of an answer of the page without heading and columns."""
+    rows = [line.split() if line.startswith(b"  ") else [line] for line in shown]
+    if rows and len(rows[0]) > 1 and all(word.isupper() for word in rows[0]):
+        del rows[0]
+    return [b" ".join(row if len(row) == 1 else [b"row", *row]) for row in rows]
+
+
 def fits(came, wanted):
-    """Returns whether lines are those of the page."""
-    parts = b"\n".join(wanted).split(b"\n..\n")
+    """Returns whether lines are those of the page, without its headings and columns."""
+    return has_parts(came, rows_of(wanted))
+
+
+def has_parts(came, wanted):
+    """Returns whether lines are these, where `..` stands for any lines."""
+    parts = b"\n".join(b".." if line.split() == [b".."] else line for line in wanted).split(b"\n..\n")
     return re.fullmatch(b"\n(?:.*\n)*?".join(map(re.escape, parts)), b"\n".join(came)) is not None
 
 
@@ -72,6 +86,12 @@ def of_program(program, lines, answers, *words):
     return came
 
 
+def shown_by(program, path, asked):
+    """Returns what a terminal shows after each question about a file."""
+    shown, _ = typed(program, ["explore", "--quiet", "1", "--from", str(path)], [*(line + b"\n" for line, _ in asked), b"\x04"])
+    return [answer.split(b"\n")[:-1] for answer in re.split(rb"heapdbg \d+> \|", shown)[1:-1]]
+
+
 def differences(programs, name, asked):
     """Yields a line for each answer in a hunt that isn't what it must be."""
     path = TOP / f"examples/{name}.session"
@@ -84,6 +104,12 @@ def differences(programs, name, asked):
     for each in programs:
         if of_program(each, lines[len(story) :], answers[len(story) :], *first) != answers[len(story) :]:
             yield f"{each}: another answer after --from"
+        shown = shown_by(each, path, asked)
+        if len(shown) != len(asked):
+            yield f"{each}: a terminal shows {len(shown)} answers"
+        for (line, wanted), answer in zip(asked, shown):
+            if not has_parts(answer, wanted):
+                yield f"{each}: after {line!r} a terminal shows {answer!r:.300}"
     for who, came in [("the model", answers), *((each, of_program(each, lines, answers)) for each in programs)]:
         for line, answer in zip(story, came):
             if not answer.startswith(b"ok"):

@@ -2,10 +2,11 @@
 """Installs the built programs as a user does, from a copy of this repository, and types there what the pages type:
 `installed.py PROGRAM IMPORT`.
 
-Looks whether the manual page and the completions know each option that the program's help names, whether the examples of the
-page, as `man` shows them, and the commands of README, SESSIONS, HUNT, RECORD, VIEWERS and of the clients' READMEs do in the
-installed folder what they say, and whether `make uninstall` leaves nothing. Prints a line for each thing that is otherwise, and ends with
-status 1 if there is one; prints nothing where all is well."""
+Looks whether the manual page and the completions know each option that the program's help names, whether heapdbg-explore
+completes the keywords of all lines, whether the examples of the manual page, as `man` shows them, and the commands of README,
+SESSIONS, HUNT, RECORD, VIEWERS and of the clients' READMEs do in the installed folder what they say, and whether `make uninstall`
+leaves nothing. Prints a line for each thing that is otherwise, and ends with status 1 if there is one; prints nothing
+where all is well."""
 import concurrent.futures
 import contextlib
 import http.client
@@ -64,8 +65,9 @@ def options_of(program, command):
     return set(re.findall(r"^ +(?:-\w, )?(--[a-z]+)", said, re.MULTILINE))
 
 
-def misses(program, man, completions):
-    """Yields what the manual page and the completions lack of the options of the program, or have beyond them."""
+def misses(program, man, completions, words):
+    """Yields what the manual page and the completions lack of the options of the program, or have beyond them, and whether the words of
+    heapdbg-explore are the keywords of its lines."""
     told = set(re.findall(r"^\.BI? (--[a-z]+)", man.read_text().replace("\\-", "-"), re.MULTILINE)) | {"--help"}
     for command in COMMANDS:
         options = options_of(program, command)
@@ -73,6 +75,9 @@ def misses(program, man, completions):
         if set(ran.stdout.split()) != options:
             yield f"the completions of {command} are {ran.stdout.strip()}, and its options {' '.join(sorted(options))}"
         yield from (f"the manual page doesn't say what {option} does" for option in sorted(options - told))
+    rows = subprocess.run([program, "explore"], input=b"help\n", capture_output=True).stdout.split(b"ok\n")[0].splitlines()
+    if [row.split()[1] for row in rows] != words.read_bytes().split():
+        yield f"{words.name} has other words than help"
     if shutil.which("mandoc"):
         said = subprocess.run(["mandoc", "-T", "lint", man], capture_output=True, text=True).stdout
         yield from said.splitlines()
@@ -322,10 +327,11 @@ def installed(folder, where):
     programs, man = where / "usr/bin", where / "usr/share/man/man1/heapdbg.1"
     if answered(programs / "heapdbg", "run") != REPLIES or answered(programs / "heapdbg-explore", "--keep", "4") != REPLIES:
         yield "the installed program or script answers the example otherwise"
-    yield from misses(programs / "heapdbg", man, where / "usr/share/bash-completion/completions/heapdbg")
+    share = where / "usr/share"
+    yield from misses(programs / "heapdbg", man, share / "bash-completion/completions/heapdbg", share / "heapdbg/explore.words")
     with tempfile.TemporaryDirectory() as name, Shell(pathlib.Path(name), programs) as shell:
         yield from manual(man, shell)
-    yield from documents(where / "usr/share/doc/heapdbg", programs)
+    yield from documents(share / "doc/heapdbg", programs)
     status, said = make(folder, "uninstall", *words)
     left = [str(path) for path in where.rglob("*") if path.is_file()]
     if status or left:

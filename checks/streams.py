@@ -4,9 +4,9 @@
 Usage: checks/streams.py PROGRAM ..
 The streams are those of checks/streams.c. Sessions that are read and written in parts are answered as usual. A read that fails,
 or would block, ends a session after the answers to the lines that were read whole; such a write ends it after the bytes that
-are out. A save and a fetch go into files that fail, and a save is whole even if its thread begins late or isn't made. After a
-served session that a fault ended, the next client finds the state that this session must have left. Prints a line for each
-difference and ends with status 1 if there is one. Prints nothing if all is well."""
+are out. A save, a fetch and lines of a session write to files that fail, and a save is whole even if its thread begins late or
+isn't made. After a served session that a fault ended, the next client finds the state that this session must have left. Prints a
+line for each difference and ends with status 1 if there is one. Prints nothing if all is well."""
 import concurrent.futures
 import contextlib
 import os
@@ -22,7 +22,8 @@ TOP = pathlib.Path(__file__).resolve().parent.parent
 sys.path[:0] = [str(TOP / "checks"), str(TOP / "checks/model"), str(TOP / "checks/program")]
 
 from cases import stored  # noqa: E402
-from clients import asked, connected, ended, ended_by, free_port, rest_of, served  # noqa: E402
+from clients import asked, connected, ended, ended_by, rest_of, served  # noqa: E402
+from ports import free_port  # noqa: E402
 from runs import EXAMPLE, EXAMPLE_REPLIES, POINT, POINT_DUMP, POINT_MADE, dump_of_longs  # noqa: E402
 from save_cases import received, saved_to  # noqa: E402
 from serve_cases import ARRAY  # noqa: E402
@@ -94,6 +95,14 @@ class Program:
         with tempfile.TemporaryDirectory() as folder:
             path = pathlib.Path(folder, "heap.hprof")
             ran = self.run(given, ["save", "--out", str(path)], **rules)
+            return ran, path.read_bytes() if path.exists() else None
+
+    def explore(self, given, **rules):
+        """Explores by lines in which PATH stands for that of a file. Returns what came of the run, and what the file has, None if there
+        is none."""
+        with tempfile.TemporaryDirectory() as folder:
+            path = pathlib.Path(folder, "heap")
+            ran = self.run(given.replace(b"PATH", str(path).encode()), ["explore"], **rules)
             return ran, path.read_bytes() if path.exists() else None
 
 
@@ -332,6 +341,20 @@ def failing_files(program):
         yield f"two pages, {count} bytes", told, (1, [b"failed %d" % count], b"heapdbg: out\n", whole[:count])
 
 
+def failing_written(program):
+    """Yields lines that write files which fail after each number of bytes: none stays."""
+    lines = POINT + b"write PATH\nmark\n"
+    for count in range(len(POINT_DUMP)):
+        for most in (1, 4096):
+            ran, dump = program.explore(lines, FILE_LEFT=count, FILE_MOST=most)
+            wanted = (0, POINT_MADE + b"no 31 NoFile\nno 15 NotMarking\n", b"", None)
+            yield f"a written file that fails after {count} bytes", (*ran.told(), dump), wanted
+    ran, dump = program.explore(lines, FILE_LEFT=len(POINT_DUMP), FILE_MOST=1)
+    yield "a written file with just enough room", (*ran.told(), dump), (0, POINT_MADE + b"ok 301\nno 15 NotMarking\n", b"", POINT_DUMP)
+    ran, dump = program.explore(lines, FILE_TIMES=INTERRUPTIONS)
+    yield "an interrupted written file", (*ran.told(), dump), (0, POINT_MADE + b"ok 301\nno 15 NotMarking\n", b"", POINT_DUMP)
+
+
 def failing_saves(program):
     """Yields saves whose session can't be read or answered. There is no file then, but if the last line alone can't be written."""
     for count in range(len(POINT) + 1):
@@ -396,7 +419,7 @@ def late_threads(program):
         yield f"two pages that fail, a thread {late} ms late", told, (1, [b"failed 66000"], b"heapdbg: out\n", True)
 
 
-CHECKS = (in_parts, pages, interrupted, failing_reads, failing_writes, failing_files, failing_saves)
+CHECKS = (in_parts, pages, interrupted, failing_reads, failing_writes, failing_files, failing_written, failing_saves)
 CHECKS += (would_block, blocking_saves, blocking_sockets, many_reads, states_left, outlets_that_fail, failing_fetches, late_threads)
 
 

@@ -9,8 +9,10 @@ The model is a program of its own: it was written from the description of the pr
 shares nothing with the code that is proved."""
 import concurrent.futures
 import os
+import pathlib
 import subprocess
 import sys
+import tempfile
 
 from asks import LEAST, WANTED, AskingDraw
 from draws import Draw
@@ -41,11 +43,12 @@ SESSIONS = {
     "large": (Draw.play, (1200, 200), 4, {"regions": 9, "keep": 60, "wide": 1, "area": 6}),
     "large-short": (Draw.play, (1000,), 2, {"regions": 7, "keep": 12, "wide": 1, "area": 4, "ids": 4}),
     "largest": (Draw.reach_largest, (), 1, {"regions": 2054, "keep": 100, "wide": 1, "area": 2051}),
-    "asked-large": (AskingDraw.play, (800,), 2, {"regions": 8, "keep": 200, "wide": 1, "area": 5}),
+    "asked-large": (AskingDraw.play, (800,), 3, {"regions": 8, "keep": 200, "wide": 1, "area": 5}),
+    "asked-more": (AskingDraw.play, (1500,), 8, {"regions": 5, "keep": 40}),
 }
 NAMES = [f"{name}-{number}" for name, (_, _, count, _) in SESSIONS.items() for number in range(1, count + 1)]
 # The sessions with questions, which go to `explore`.
-ASKED = ("asked", "asked-short", "asked-wide", "asked-large")
+ASKED = ("asked", "asked-short", "asked-wide", "asked-large", "asked-more")
 # How sessions end: what comes after the last line, how it is answered, and the status and standard error of the program. The last
 # one has as many letters as make a line too long.
 ENDS = (
@@ -93,13 +96,18 @@ def checked(name, programs):
     lines = [*draw.lines, (end, last)]
     words = [f"--{option}={value}" for option, value in draw.settings.items()]
     found = []
+    asks = isinstance(draw, AskingDraw)
     for program in programs:
-        task = "explore" if isinstance(draw, AskingDraw) else "run"
-        ran = subprocess.run([program, task, *words], input=given(draw, end), capture_output=True, timeout=SECONDS)
+        with tempfile.TemporaryDirectory() as folder:
+            how = {"input": given(draw, end), "capture_output": True, "timeout": SECONDS, "cwd": folder}
+            ran = subprocess.run([program, "explore" if asks else "run", *words], **how)
+            made = {path.name: path.read_bytes() for path in pathlib.Path(folder).iterdir()}
         if ran.stdout != b"".join(answer for _, answer in lines):
             found.append(f"{program}, session {name}: {difference(lines, ran.stdout)}")
         elif [ran.returncode, ran.stderr] != wanted:
             found.append(f"{program}, session {name}: status {ran.returncode}, {ran.stderr!r:.100}, and must be {wanted}")
+        elif made != (draw.session.files if asks else {}):
+            found.append(f"{program}, session {name}: makes other files, among {sorted(made)}")
     return found, draw.machine.sights
 
 

@@ -3,7 +3,7 @@ from re import findall
 
 from draws import Draw
 from heap import FIRST_OBJECT, REGION_WORDS, REGISTERS
-from questions import FORMS, QUESTIONS, Asking, field_names
+from questions import FILE_FORMS, FILES, FORMS, QUESTIONS, Asking, field_names
 
 # What questions have to be answered, and how often at least: refusals by number, others by the words after `ok`.
 ABOUT_MOMENTS = ("ok", "ok without AT", "no 22", "no 23", "no 24")
@@ -55,6 +55,8 @@ WANTED = {
     "at": ("ok place", "ok by a place's name", "no 24", "bad"),
     "name": ("ok place", "bad"),
     "forward": ("ok place", "ok by a place's name", "no 24", "no 29"),
+    "write": (*ABOUT_A_MOMENT, "no 31", "bad"),
+    "draw": ("no 31",),
     "help": ("ok", "bad"),
     "comment": ("nothing",),
 }
@@ -62,8 +64,8 @@ LEAST = 3
 # The events that name a class or a field, beside `new`.
 BY_NAMES = (b"newarray", b"load", b"store", b"put")
 # How often lines are asked.
-WEIGHTS = dict.fromkeys(QUESTIONS, 2) | dict.fromkeys(BY_NAMES, 1)
-WEIGHTS |= {b"show": 6, b"watch": 4, b"writes": 4, b"help": 2, b"name": 6, b"at": 4, b"dominators": 4}
+WEIGHTS = dict.fromkeys(QUESTIONS | FILES, 2) | dict.fromkeys(BY_NAMES, 1)
+WEIGHTS |= {b"show": 6, b"watch": 4, b"writes": 4, b"help": 2, b"name": 6, b"at": 4, b"dominators": 4, b"draw": 1}
 # The questions about the steps up to a place.
 PAST = (b"born", b"wrote", b"watch", b"writes", b"when", b"dropped", b"history")
 
@@ -115,7 +117,7 @@ class AskingDraw(Draw):
 
     def __init__(self, seed, **settings):
         super().__init__(seed, **settings)
-        self.session = Asking(self.machine)
+        self.session = Asking(self.machine, files={})
         self.seen = []
 
     def moment(self):
@@ -220,7 +222,16 @@ class AskingDraw(Draw):
 
     def help_words(self):
         """Returns the words after `help`: none, the word of a line, or words that name no line."""
-        return self.lots.pick([[], [self.lots.pick(list(FORMS))], ["helping"], ["path", "-"]])
+        return self.lots.pick([[], [self.lots.pick([*FORMS, *FILE_FORMS])], ["helping"], ["path", "-"]])
+
+    def new_path(self):
+        """Returns a word for a path: mostly one by which a file can be made."""
+        files = self.session.files
+        return self.lots.pick([*[f"{len(files)}.hprof"] * 5, f"@{len(files)}", *self.taken_paths()])
+
+    def taken_paths(self):
+        """Returns words for paths by which no file can be made."""
+        return ["no/such/folder", *list(self.session.files)[-2:]]
 
     def held_word(self):
         """Returns a word for a value of a slot."""
@@ -253,11 +264,12 @@ class AskingDraw(Draw):
         draws["n"] = lambda: self.lots.near(self.lots.below(8), 70)
         draws["m"] = lambda: self.lots.near(self.lots.pick([0, 1, 1, 2, 2, 3, 5, 9, 256, 257]), 70)
         draws["#"] = lambda: "count"
+        draws["t"] = self.new_path if word == b"write" else lambda: self.lots.pick(self.taken_paths())
         if word == b"at":
             draws["p"] = lambda: "-" if self.lots.once_in(4) else self.retained_place()
         if word == b"show":
             draws |= {"o": self.object_along, "n": self.asked_index, "e": lambda: self.lots.pick([0, 1, 1, 2, 2, 3, 8, 9])}
-        form = "" if word == b"help" else self.lots.pick(QUESTIONS[word].split("|"))
+        form = "" if word == b"help" else self.lots.pick((QUESTIONS | FILES)[word].split("|"))
         parts = findall(r"\??.", form)
         kept = [part for part in parts if part[0] != "?" or not self.lots.once_in(4)]
         form = "".join(part[-1] for part in kept)

@@ -1,4 +1,5 @@
-"""Cases of `explore` and of `run` with questions: examples/questions/NAME.session with what it must be answered in NAME.expected."""
+"""Cases of `explore` and of `run` with questions: checks/sessions/questions/NAME.session with what it must be answered in
+NAME.expected, and by `explore`, if that differs, in NAME.explored."""
 import os
 import pathlib
 import tempfile
@@ -108,9 +109,12 @@ def files_first(program):
 def questions(program):
     """Yields sessions with questions as (name, what happened, what must happen)."""
     yield "explore on the example", run(program, ["explore"], EXAMPLE), (0, EXAMPLE_REPLIES, b"")
-    for path in sorted(TOP.glob("examples/questions/*.session")):
-        wanted = (0, path.with_suffix(".expected").read_bytes(), b"")
-        yield path.stem, run(program, ["explore"], path.read_bytes()), wanted
+    for path in sorted(TOP.glob("checks/sessions/questions/*.session")):
+        answers, explored = path.with_suffix(".expected"), path.with_suffix(".explored")
+        wanted = (explored if explored.exists() else answers).read_bytes()
+        with tempfile.TemporaryDirectory() as folder:
+            yield path.stem, run(program, ["explore"], path.read_bytes(), cwd=folder), (0, wanted, b"")
+        wanted = (0, answers.read_bytes(), b"")
         yield f"{path.stem}, run", run(program, ["run", "--questions", "1"], path.read_bytes()), wanted
     for words in ([], ["--questions", "0"]):
         asked = run(program, ["run", *words], b"histogram -\ncollect\nhelp\n# x\n")

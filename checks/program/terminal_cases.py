@@ -1,15 +1,18 @@
 """Cases of `explore` at a terminal: its prompt, its advice, rows in columns, and the script that runs it."""
+import fcntl
 import os
 import pty
 import re
 import select
 import shutil
 import signal
+import struct
 import subprocess
 import tempfile
+import termios
 import time
 
-from clients import free_port
+from ports import free_port
 from runs import SECONDS, TOP, read_or_nothing, run
 
 
@@ -28,14 +31,14 @@ def status_of(child, seconds):
     return os.waitstatus_to_exitcode(ended[1])
 
 
-def typed(program, words, given, seconds=SECONDS):
+def typed(program, words, given, seconds=SECONDS, **env):
     """Returns what a terminal shows of a program whose three streams it is, with its echo off, and the status. Types nothing more
-    once a prompt takes too long."""
+    once a prompt takes too long. The terminal is dumb, unless `env` says otherwise."""
     child, terminal = pty.fork()
     if child == 0:
         # (what a shell starts in the background ignores interrupts)
         signal.signal(signal.SIGINT, signal.SIG_DFL)
-        os.execv(program, ["heapdbg", *words])
+        os.execve(program, ["heapdbg", *words], {**os.environ, "TERM": "dumb", **env})
     with os.fdopen(terminal, "r+b", buffering=0) as stream:
         subprocess.run(["stty", "-echo", "-onlcr"], stdin=stream, check=True, timeout=SECONDS)
         shown = bytearray()
@@ -110,8 +113,8 @@ heapdbg 7> |
 """
 
 
-# The forms of all lines, in the order of `help`, and the keywords of those that change nothing.
-FORMS = [row[4:] for row in (TOP / "examples/questions/help.expected").read_bytes().split(b"ok\n")[0].splitlines()]
+# The forms of all lines, in the order of `help`, and the keywords of those that change nothing and make no file.
+FORMS = [row[4:] for row in (TOP / "checks/sessions/questions/help.explored").read_bytes().split(b"ok\n")[0].splitlines()]
 HARMLESS = b"histogram garbage growth kept diff registers classes objects values referrers path paths retained dominators dominator show born wrote watch writes when dropped life history cycles pins cells regions status help".split()
 # Words that people type at other prompts, and words that are as near to two keywords.
 WORDS = b"undo find back exitt list info hist goto step print HISTOGRAM rewing reiwnd classs pars endd edn hlep".split()
@@ -210,6 +213,84 @@ def by_script(program):
             if script_at == program_at:
                 interrupted = typed(script, [], [b"frobnic\x03pins\n", b"\x04"])
                 yield "an interrupt of heapdbg-explore", interrupted, (b"heapdbg 0> |ok 0\nheapdbg 0> |\n", 0)
+                yield from edited(script, folder)
+
+
+# Stands for rlwrap: tells its words up to the program that it runs, and runs that.
+EDITOR = """#!/bin/sh
+told=
+while [ "$1" != sh ]; do
+    told="$told $1"
+    shift
+done
+echo "rlwrap$told"
+exec "$@"
+"""
+# What is typed to a line editor, and a part of what is shown then: Ctrl-C drops a line; Tab completes a keyword, and a class and an
+# id that were shown; an arrow key brings the line before back.
+EDITED = (
+    (b"class server/Entry - next:object\r", b"ok class 0"),
+    (b"frobnic\x03new 0 0 0\r", b"ok object 0x10000000"),
+    (b"histog\t\r", b"server/Entry"),
+    (b"values serv\tnext\r", b"null"),
+    (b"show 0x1\t\r", b"ok object server/Entry 1"),
+    (b"\x1b[A\r", b"ok object server/Entry 1"),
+    (b"\x04", b""),
+)
+
+
+def edited(script, folder):
+    """Yields what the script does where rlwrap is, as (name, what happened, what must happen): it runs that, with its keywords if they
+    are there, at a terminal alone."""
+    editors = os.path.join(folder, "editors")
+    os.mkdir(editors)
+    editor = os.path.join(editors, "rlwrap")
+    with open(editor, "w", encoding="ascii") as file:
+        file.write(EDITOR)
+    os.chmod(editor, 0o755)
+    env = {"PATH": editors + ":/usr/bin:/bin", "TERM": "xterm"}
+    shown = b"heapdbg 0> |ok 0\nheapdbg 0> |\n"
+    interrupted = [b"frobnic\x03pins\n", b"\x04"]
+    yield "heapdbg-explore with rlwrap", typed(script, [], interrupted, **env), (b"rlwrap -C heapdbg -r -b  \n" + shown, 0)
+    words = os.path.join(os.path.dirname(script), "../share/heapdbg/explore.words")
+    os.makedirs(os.path.dirname(words))
+    shutil.copy(TOP / "completions/explore.words", words)
+    told = f"rlwrap -C heapdbg -r -b   -f {words}\n".encode()
+    yield "heapdbg-explore with rlwrap and keywords", typed(script, [], interrupted, **env), (told + shown, 0)
+    yield "heapdbg-explore at a dumb terminal", typed(script, [], interrupted, **{**env, "TERM": "dumb"}), (shown, 0)
+    piped = subprocess.run([script], input=b"pins\n", capture_output=True, env=env)
+    yield "heapdbg-explore on a pipe, with rlwrap", (piped.returncode, piped.stdout, piped.stderr), (0, b"ok 0\n", b"")
+    if shutil.which("rlwrap"):
+        wanted = [True for _ in EDITED]
+        yield "lines edited by rlwrap", by_editor(script, folder), (wanted, 0, True)
+
+
+def by_editor(script, folder):
+    """Returns whether each line that is typed to rlwrap shows what it must, the status, and whether the lines are kept."""
+    child, terminal = pty.fork()
+    if child == 0:
+        # (rlwrap asks how wide its terminal is)
+        time.sleep(0.1)
+        signal.signal(signal.SIGINT, signal.SIG_DFL)
+        os.execve(script, ["heapdbg-explore"], {**os.environ, "TERM": "xterm", "HOME": folder})
+    fcntl.ioctl(terminal, termios.TIOCSWINSZ, struct.pack("HHHH", 24, 200, 0, 0))
+    found = []
+    with os.fdopen(terminal, "r+b", buffering=0) as stream:
+        shown_until(stream, b"> ")
+        for line, part in EDITED:
+            stream.write(line)
+            found.append(part in shown_until(stream, part + b".*> " if part else b"(?!)"))
+    status = status_of(child, SECONDS)
+    with open(os.path.join(folder, ".heapdbg_history"), "rb") as file:
+        return found, status, b"histogram" in file.read()
+
+
+def shown_until(stream, wanted):
+    """Returns what a terminal shows until that fits a pattern, or until nothing comes any more."""
+    shown = b""
+    while not re.search(wanted, shown, re.DOTALL) and (more := shown_next(stream, SECONDS)):
+        shown += more
+    return shown
 
 
 def at_a_terminal(program):

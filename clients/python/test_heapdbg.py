@@ -407,6 +407,19 @@ class Columns(unittest.TestCase):
         lines = b"name start", b"at @start", b"at -", b"growth @start -", b"history 3", b"objects - 0", b"open @start", b"rewind @start"
         self.assertEqual(heap.writer.getvalue(), b"".join(line + b"\n" for line in (*lines, b"name one.more")))
 
+    def test_files(self):
+        heap = canned("ok 301", "ok 301", "ok 9000", "no 31 NoFile", "bad command")
+        self.assertEqual((heap.write_dump("a.hprof"), heap.write_dump(pathlib.Path("/b"), Place(3)), heap.write_picture("c.svg")), (301, 301, 9000))
+        with self.assertRaises(Refused) as refused:
+            heap.write_picture("c.svg")
+        self.assertEqual((refused.exception.number, refused.exception.name), (31, "NoFile"))
+        with self.assertRaises(BadCommand) as bad:
+            heap.write_dump("a", Now())
+        self.assertIn("explore writes files", str(bad.exception))
+        self.assertRaises(BadCommand, lambda: heap.write_dump("two words"))
+        lines = b"write a.hprof", b"write @3 /b", b"draw c.svg", b"draw c.svg", b"write - a"
+        self.assertEqual(heap.writer.getvalue(), b"".join(line + b"\n" for line in lines))
+
     def test_facts(self):
         texts = "no 18 NotDone 2 1", "no 19 SweepPending 3", "no 20 NothingToSweep 9", "no 21 TooFar 5 4", "no 23 Lost Rewound", "no 2 NoClass"
         facts = []
@@ -448,6 +461,18 @@ class Explored(unittest.TestCase):
                 self.assertIn("Kept", names)
                 self.assertEqual(len(heap.objects(of_class=names.index("Kept"))), 1)
             self.assertEqual((heap.status, heap.text), (0, f"heapdbg: {path}: 1 root of what isn't made"))
+
+    def test_written_files(self):
+        with tempfile.TemporaryDirectory() as folder, Session.explore(PROGRAM) as heap:
+            dump, picture = pathlib.Path(folder, "heap.hprof"), pathlib.Path(folder, "heap.svg")
+            heap.define_array("Kept")
+            heap.new_array(0, 0, 0, 3)
+            first = heap.dump(heap.open(Place(1)))
+            self.assertEqual((heap.write_dump(dump, Place(1)), dump.read_bytes()), (len(first), first))
+            self.assertEqual((heap.write_picture(picture), picture.read_bytes()[:4]), (picture.stat().st_size, b"<svg"))
+            with self.assertRaises(Refused) as caught:
+                heap.write_dump(dump)
+            self.assertEqual((caught.exception.number, dump.read_bytes()), (31, first))
 
     def test_a_wide_heap(self):
         for wide in (False, True):

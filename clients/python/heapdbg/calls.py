@@ -1,6 +1,7 @@
 """The lines of a session as methods."""
 from __future__ import annotations
 
+import os
 from typing import Any, Optional, Sequence, Union
 
 from .faults import BadCommand, word_of
@@ -220,6 +221,15 @@ class Calls:
         name is 1 to 64 ASCII letters, digits, `_`, `-` and `.`, the first a letter."""
         return self.send(f"name {word_of(word)}", number)
 
+    def write_dump(self, path: Union[str, "os.PathLike[str]"], moment: Moment = None) -> int:
+        """Has heapdbg write the dump of a state to a new file, and returns the file's size. A path that isn't whole begins in the
+        folder of heapdbg, and none has a space. Only `explore` over a heap of its own writes files."""
+        return self.send(f"write{about(moment)} {word_of(os.fspath(path))}", number)
+
+    def write_picture(self, path: Union[str, "os.PathLike[str]"]) -> int:
+        """The same for a picture of the regions of the current state."""
+        return self.send(f"draw {word_of(os.fspath(path))}", number)
+
     def show(self, moment: Moment, of: int, first: int = 0, count: Optional[int] = None, along: Sequence[Name] = ()) -> list[SlotRow]:
         """Returns a `SlotRow` for each slot of an object, or for each from the slot `first` on: for `count` of these, if there are
         as many. With fields, by their names or numbers, it is the object to which they lead from this one, one after another."""
@@ -288,7 +298,7 @@ class Calls:
 
     def retained(self, moment: Moment, of: int) -> list[ClassCount]:
         """Returns a `ClassCount` for each class of the objects that are reached, and wouldn't be without this one, itself
-        among them. What several objects retain may overlap."""
+        among them. Those of several objects may overlap."""
         return self.send(f"retained{about(moment)} {ObjectId(of)}", rows_by(counted))
 
     def dominators(self, moment: Moment = None, most: Optional[int] = None, of: Optional[int] = None) -> list[Holding]:

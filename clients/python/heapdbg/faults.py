@@ -10,6 +10,9 @@ WORD = re.compile(r"[!-~]+")
 QUESTIONS = """show registers classes objects values histogram growth kept diff path paths retained dominators dominator referrers garbage wrote watch writes when born dropped
 life history cycles pins cells regions status collect forward at name help""".split()
 
+# The lines that write files.
+FILES = "write draw".split()
+
 
 class NotDoneFacts(NamedTuple):
     """The facts of 18 NotDone: how many objects are gray, and how many entries of the log are left."""
@@ -77,7 +80,8 @@ class BadCommand(ValueError):
     def __init__(self, line: str) -> None:
         words = line.split()
         asks = " (heapdbg explore answers questions, and so do other commands with --questions 1)"
-        super().__init__(repr(line) + (asks if words and words[0] in QUESTIONS else ""))
+        files = " (heapdbg explore writes files, without --page and --port)"
+        super().__init__(repr(line) + (asks if words[:1] and words[0] in QUESTIONS else files if words[:1] and words[0] in FILES else ""))
         self.line = line
         self.others: tuple[Fault, ...] = ()
 

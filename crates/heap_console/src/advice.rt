@@ -1,5 +1,5 @@
 //! Advice on lines that were refused or are no command.
-use question_text::{all_help, keyword_help, question_help};
+use question_text::{all_help, file_keyword_help, file_rows, keyword_help, question_help};
 use std::alloc::{AllocError, Global};
 use std::str;
 use strsim::levenshtein;
@@ -21,15 +21,23 @@ pub(crate) enum Advice {
     Help,
 }
 
-/// Returns the form of a line by its first word, if that is a keyword.
-pub(crate) fn form_of(line: &[u8]) -> Option<&'static str> {
-    form_with(first_word(str::from_utf8(line).ok()?)?)
+/// Returns the form of a line by its first word, if that is a keyword. `has_files` tells whether lines write files.
+pub(crate) fn form_of(line: &[u8], has_files: bool) -> Option<&'static str> {
+    form_with(first_word(str::from_utf8(line).ok()?)?, has_files)
 }
 
 // Returns the form of the line that begins with a keyword.
-fn form_with(keyword: &str) -> Option<&'static str> {
-    let text = str::from_utf8(keyword_help(keyword.as_bytes())?).ok()?;
+fn form_with(keyword: &str, has_files: bool) -> Option<&'static str> {
+    let text = str::from_utf8(help_about(keyword.as_bytes(), has_files)?).ok()?;
     form_in(text.lines().next()?)
+}
+
+// Returns what `help` answers about a keyword.
+fn help_about(keyword: &[u8], has_files: bool) -> Option<&'static [u8]> {
+    match keyword_help(keyword) {
+        None if has_files => file_keyword_help(keyword),
+        text => text,
+    }
 }
 
 // Returns the text of a row.
@@ -43,33 +51,59 @@ fn first_word(text: &str) -> Option<&str> {
 }
 
 // Returns the advice for a line that is no command.
-pub(crate) fn advise(alloc: Global, line: &[u8]) -> Advice {
-    if let Some(form) = form_of(line) {
+pub(crate) fn advise(alloc: Global, line: &[u8], has_files: bool) -> Advice {
+    if let Some(form) = form_of(line, has_files) {
         return Advice::Form(form);
     }
     let Some(word) = str::from_utf8(line).ok().and_then(first_word) else {
         return Advice::Help;
     };
-    match nearest(alloc, word) {
+    match nearest(alloc, word, has_files) {
         Ok(Some(form)) => Advice::Near(form),
         Ok(None) | Err(_) => Advice::Help,
     }
 }
 
+// A form, and how far its keyword is from a word.
+#[derive(Clone, Copy)]
+struct NearForm {
+    distance: usize,
+    form: Option<&'static str>,
+}
+
 // Returns the form of the line whose keyword is nearest to a word, if one is near enough: of several the first that `help`
 // lists. Fails if an allocation fails.
-fn nearest(alloc: Global, word: &str) -> Result<Option<&'static str>, AllocError> {
-    let mut found = None;
-    let mut least = NEAR + 1;
-    let rows = str::from_utf8(all_help()).unwrap_or("");
-    for row in rows.lines() {
+fn nearest(alloc: Global, word: &str, has_files: bool) -> Result<Option<&'static str>, AllocError> {
+    let mut found = NearForm {
+        distance: NEAR + 1,
+        form: None,
+    };
+    found = nearest_in(alloc, word, all_help(), found)?;
+    if has_files {
+        found = nearest_in(alloc, word, file_rows(), found)?;
+    }
+    Ok(found.form)
+}
+
+// Returns the form of the nearest of these rows, if it is nearer than what was found, and near enough. Fails if an allocation
+// fails.
+fn nearest_in(
+    alloc: Global,
+    word: &str,
+    rows: &'static [u8],
+    found: NearForm,
+) -> Result<NearForm, AllocError> {
+    let mut found = found;
+    for row in str::from_utf8(rows).unwrap_or("").lines() {
         if let Some(form) = form_in(row)
             && let Some(keyword) = first_word(form)
         {
             let distance = levenshtein(alloc, word, keyword)?;
-            if distance <= reach(keyword) && distance < least {
-                least = distance;
-                found = Some(form);
+            if distance <= reach(keyword) && distance < found.distance {
+                found = NearForm {
+                    distance,
+                    form: Some(form),
+                };
             }
         }
     }

@@ -53,7 +53,8 @@ impl<I: Inlet + Drop, R: Eprint> PromptInlet<'_, I, R> {
 
     // Writes the form of the line that was read before, or of the line with the nearest keyword.
     fn write_form(&self) {
-        let _ = match advise(self.alloc, self.typed.as_slice()) {
+        let has_files = self.console.watch.has_files();
+        let _ = match advise(self.alloc, self.typed.as_slice(), has_files) {
             Advice::Form(form) => match state_names(form) {
                 Some(names) => { eprintln!(self.rt; "the form of this line is: {form}\n{names}") }
                 None => eprintln!(self.rt; "the form of this line is: {form}"),
@@ -65,8 +66,10 @@ impl<I: Inlet + Drop, R: Eprint> PromptInlet<'_, I, R> {
 
     // Writes how the line that was read before names a state, and the oldest place, or else how to find the pins.
     fn write_places(&self) {
-        let oldest = self.console.watch.oldest();
-        let _ = match form_of(self.typed.as_slice()).and_then(state_names) {
+        let watch = &self.console.watch;
+        let oldest = watch.oldest();
+        let form = form_of(self.typed.as_slice(), watch.has_files());
+        let _ = match form.and_then(state_names) {
             Some(names) => eprintln!(self.rt; "{names}\nthe oldest retained place is @{oldest}"),
             None => eprintln!(self.rt; "pins lists the open pins"),
         };

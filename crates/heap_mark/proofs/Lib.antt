@@ -10,7 +10,6 @@ pub mod Children
 pub mod Pops
 pub mod Calls
 pub mod Firsts
-pub mod RegionWalks
 pub mod UnmarkedCounts
 pub mod Finishes
 pub mod TurnedRegions

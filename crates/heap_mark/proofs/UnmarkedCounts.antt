@@ -1,39 +1,15 @@
 -- How many objects aren't marked, and aren't live after a turn.
-use Rattle.std.proofs.Common.{◌≡◌, ℕ, zero, suc, ◌+◌, ◌<◌, ◌≤◌, Bool, false, not, cond, List, [], ◌∷◌, length, drop, map, get_or, Option, Some, None, refl, sym, ap, ap₂, ◌∙◌, arith}
-use Rattle.std.specs.Prelude.{is_some, count_by, option_map, flat_map}
-use Rattle.std.specs.List.{filter_map, enumerate_from, sum_by}
-use Rattle.std.proofs.lemmas.List.{at_drop_more, at_drop_all}
+use Rattle.std.proofs.Common.{◌≡◌, ℕ, ◌+◌, Bool, not, cond, List, [], ◌∷◌, map, Option, Some, None, refl, sym, ap, ap₂, ◌∙◌, arith}
+use Rattle.std.specs.Prelude.{count_by, option_map, flat_map}
+use Rattle.std.specs.List.{filter_map, enumerate_from}
 use Rattle.std.proofs.lemmas.List.Sums.{sum_by-append, sum_by-cons}
 use Rattle.heap_class.specs.declared.ObjRef.{ObjRef}
-use Rattle.heap_region.specs.Regions.{Object, UsedRegion, Region, Empty, InUse, used_part, used_at, objects_of_region, objects_in, in_used}
-use Rattle.heap_region.specs.Turns.{turned_object, turned_region, is_unmarked, unmarked_in}
+use Rattle.heap_region.specs.Regions.{Object, Region, Empty, InUse, used_part, objects_of_region, objects_in, in_used}
+use Rattle.heap_region.specs.Turns.{turned_object, turned_region, is_unmarked, unmarked_in, unmarked_total}
 use Rattle.heap_mark.specs.MarkSteps.{each_region, dead_count}
-
--- those of all regions
-abbrev pub unmarked_count : List Region → ℕ
-unmarked_count regions = sum_by (λ x. unmarked_in (used_part x)) regions
 
 abbrev unmarked_count_of_cell : Option Object → ℕ
 unmarked_count_of_cell x = cond (is_unmarked x) 1 0
-
--- ---- regions
-
-pub region_read : (regions : List Region) (r : ℕ) → used_part (get_or regions r Empty) ≡ used_at regions r
-unfolding used_at
-region_read [] r = refl
-region_read (x ∷ xs) zero = refl
-region_read (x ∷ xs) (suc r) = region_read xs r
-
-pub region_counted : (regions : List Region) (r : ℕ) → r < length regions → unmarked_count (drop r regions) ≡ unmarked_in (used_at regions r) + unmarked_count (drop (r + 1) regions)
-region_counted regions r lt = at_drop_more unmarked_count regions r Empty lt ∙ (sum_by-cons (λ x. unmarked_in (used_part x)) (get_or regions r Empty) (drop (r + 1) regions) ∙ ap (λ (x : Option UsedRegion). unmarked_in x + unmarked_count (drop (r + 1) regions)) (region_read regions r))
-
--- a region that isn't in use has none
-pub none_in_unused : (x : Option UsedRegion) → is_some x ≡ false → unmarked_in x ≡ 0
-none_in_unused None e = refl
-none_in_unused (Some u) e = cc
-
-pub no_region_left : (regions : List Region) (r : ℕ) → length regions ≤ r → unmarked_count (drop r regions) ≡ 0
-no_region_left regions r le = at_drop_all unmarked_count regions r le
 
 -- ---- those that aren't live after a turn
 
@@ -57,12 +33,13 @@ unfolding objects_of_region in_used turned_region
 region_dead r Empty = refl
 region_dead r (InUse u) = cells_dead r 0 u.cells
 
-regions_dead : (r : ℕ) (regions : List Region) → count_by is_dead (flat_map objects_of_region (enumerate_from r (map (in_used turned_region) regions))) ≡ unmarked_count regions
+regions_dead : (r : ℕ) (regions : List Region) → count_by is_dead (flat_map objects_of_region (enumerate_from r (map (in_used turned_region) regions))) ≡ unmarked_total regions
+unfolding unmarked_total
 regions_dead r [] = refl
 regions_dead r (x ∷ xs) =
     sum_by-append (λ (p : ObjRef × Object). cond (is_dead p) 1 0) (objects_of_region (r, in_used turned_region x)) (flat_map objects_of_region (enumerate_from (r + 1) (map (in_used turned_region) xs)))
     ∙ (ap₂ (λ (j k : ℕ). j + k) (region_dead r x) (regions_dead (r + 1) xs) ∙ sym (sum_by-cons (λ y. unmarked_in (used_part y)) x xs))
 
-pub dead_are : (regions : List Region) → dead_count (each_region turned_region regions) ≡ unmarked_count regions
+pub dead_are : (regions : List Region) → dead_count (each_region turned_region regions) ≡ unmarked_total regions
 unfolding dead_count objects_in each_region
 dead_are regions = regions_dead 0 regions

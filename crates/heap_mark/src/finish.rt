@@ -13,29 +13,19 @@ pub fn first_pending(regions: &Regions) -> Option<u64>
     regions.first_pending()
 }
 
-/// Turns every region in use. Returns the number of objects that aren't live then. Takes a time by the number of regions.
+/// Turns every region in use. Returns the number of objects that aren't live then. Takes constant time.
 pub(crate) fn turn_all(regions: &mut Regions) -> u64
     ensures regions { regions.new
         ≡ record regions.old { regions = each_region turned_region regions.old.regions } }
     ensures condemned { result ≡ dead_count regions.new.regions }
 {
-    let mut condemned = 0;
-    for region in 0..regions.count() {
-        if regions.cell_size(region).is_some() {
-            condemned += regions.turn(region);
-        }
-    }
-    condemned
+    regions.turn()
 }
 
-/// Undoes `turn_all`. Takes a time by the number of regions.
+/// Undoes `turn_all`. Takes constant time.
 pub(crate) fn turn_all_back(regions: &mut Regions)
     ensures { regions.new
         ≡ record regions.old { regions = each_region turned_back_region regions.old.regions } }
 {
-    for region in 0..regions.count() {
-        if regions.cell_size(region).is_some() {
-            regions.turn_back(region);
-        }
-    }
+    regions.turn_back()
 }

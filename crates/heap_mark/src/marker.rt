@@ -346,6 +346,7 @@ impl Marker {
     }
 
     // Marks and pushes the object that the id names, if it is unmarked. Skips null.
+    #[inline(always)]
     fn shade(&mut self, regions: &mut Regions, id: u64)
         requires sound { IsGraySound regions.old.regions self.old }
         requires names { IsNullOrNames regions.old.regions id }

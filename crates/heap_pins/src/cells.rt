@@ -6,7 +6,7 @@ ghost use Rattle.heap_pins.specs.Pin.{cell_state, state_kept};
 ghost use Rattle.heap_pins.specs.States.{AreOf, AreRestored, AreSettled, cell_states, storage_states};
 
 use crate::kept::blank;
-use heap_region::{ObjectCopy, Regions, Storage};
+use heap_region::{ObjectCopy, RegionView, Regions};
 
 // The state of an empty cell.
 pub(crate) const EMPTY: u8 = 0;
@@ -25,13 +25,13 @@ pub(crate) fn states_now(regions: &Regions, region: u64) -> [u8; 256]
     ensures { AreOf (cell_states regions.now.regions) region cell_limit result }
 {
     match regions.region(region) {
-        Some(storage) => storage_states(storage),
+        Some(storage) => storage_states(&storage),
         None => blank(),
     }
 }
 
 // Returns the states of the cells of a region in use.
-pub(crate) fn storage_states(storage: &Storage) -> [u8; 256]
+pub(crate) fn storage_states(storage: &RegionView<'_>) -> [u8; 256]
     ensures { (r : ℕ) → AreOf (storage_states storage.now) r cell_limit result }
 {
     let mut states = blank();
@@ -43,7 +43,7 @@ pub(crate) fn storage_states(storage: &Storage) -> [u8; 256]
 
 // Returns the state of a cell of a region in use.
 #[inline(always)]
-pub(crate) fn storage_state(storage: &Storage, cell: u64) -> u8
+pub(crate) fn storage_state(storage: &RegionView<'_>, cell: u64) -> u8
     ensures { result ≡ cell_state (cell_object storage.now cell) }
 {
     match storage.liveness(cell) {

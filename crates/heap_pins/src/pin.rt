@@ -256,8 +256,9 @@ impl Pin {
         if self.has_copy(region as u64) {
             return Ok(());
         }
+        let storage = storage.view();
         let copy = storage.freeze(world.regions().allocator())?;
-        let mut states = storage_states(storage);
+        let mut states = storage_states(&storage);
         self.settle(region as u64, &mut states);
         self.kept.put(region as u64, copy, &states);
         Ok(())

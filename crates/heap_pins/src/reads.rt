@@ -11,7 +11,7 @@ ghost use Rattle.heap_pins.specs.States.{IsFirstIn, IsFirstPlace, IsShownIf, sta
 use crate::cells::{EMPTY, LIVE, state_kept, storage_state};
 use crate::pin::Pin;
 use heap_class::{ObjKind, ObjRef};
-use heap_region::{FrozenRegion, OBJECT_BASE, REGION_WORDS, Storage};
+use heap_region::{FrozenRegion, OBJECT_BASE, REGION_WORDS, RegionView};
 use heap_world::World;
 use hprof_text::ShownObject;
 use memchr::memchr;
@@ -72,7 +72,7 @@ impl Pin {
             return false;
         }
         match world.regions().region(region) {
-            Some(storage) => storage_state(storage, cell) == LIVE,
+            Some(storage) => storage_state(&storage, cell) == LIVE,
             None => false,
         }
     }
@@ -122,7 +122,7 @@ impl Pin {
             return self.first_kept(region, from);
         }
         match world.regions().region(region) {
-            Some(storage) => self.first_of(storage, region, from),
+            Some(storage) => self.first_of(&storage, region, from),
             None => None,
         }
     }
@@ -140,7 +140,7 @@ impl Pin {
     }
 
     // Returns the first cell of a region in use without a copy from one on that has a live object.
-    fn first_of(&self, storage: &Storage, region: u64, from: u64) -> Option<u64>
+    fn first_of(&self, storage: &RegionView<'_>, region: u64, from: u64) -> Option<u64>
         requires region { region < length self.now.copies }
         ensures { IsFirstIn (state_in_storage self.now storage.now) region from result }
     {
@@ -228,7 +228,7 @@ fn id_in(copy: &FrozenRegion, at: ObjRef) -> u64
 }
 
 // Returns the first cell of a region in use from one on that had a live object, by the bytes of its cells.
-fn first_by(ended: bool, bytes: &[u8; 256], storage: &Storage, from: u64) -> Option<u64>
+fn first_by(ended: bool, bytes: &[u8; 256], storage: &RegionView<'_>, from: u64) -> Option<u64>
     ensures { (r : ℕ) → IsFirstIn (state_by ended bytes.now storage.now) r from result }
 {
     for cell in from..storage.cells() {
@@ -240,7 +240,7 @@ fn first_by(ended: bool, bytes: &[u8; 256], storage: &Storage, from: u64) -> Opt
 }
 
 // Returns the first cell of a region in use from one on that had a live object, if no cell was taken since.
-fn first_untaken(ended: bool, storage: &Storage, from: u64) -> Option<u64>
+fn first_untaken(ended: bool, storage: &RegionView<'_>, from: u64) -> Option<u64>
     ensures { (r : ℕ) → IsFirstIn (state_by ended [] storage.now) r from result }
 {
     for cell in from..storage.cells() {

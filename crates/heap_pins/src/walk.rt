@@ -148,8 +148,10 @@ impl Pin {
             (self.new ≡ with_copy_before (Reclaim region storage.now) world.now region self.old) }
         ensures refused { IfErr result (λ e. e ≡ NoMemory) }
     {
+        let storage = storage.view();
         let copy = storage.freeze(world.regions().allocator())?;
-        self.kept.put(region as u64, copy, &storage_states(storage));
+        self.kept
+            .put(region as u64, copy, &storage_states(&storage));
         Ok(())
     }
 }

@@ -18,6 +18,7 @@ pub mod SearchOrder
 pub mod PathOrder
 pub mod FoundPaths
 pub mod WaysBack
+pub mod Hops
 pub mod Starting
 pub mod StartSearch
 pub mod PathStarts

@@ -1,10 +1,12 @@
 -- An image with other registers has the same objects.
-use Rattle.std.proofs.Common.{◌≡◌, ℕ, List, refl, sym, ◌∙◌}
+use Rattle.std.proofs.Common.{◌≡◌, ℕ, List, [], ◌∷◌, refl, sym, ◌∙◌}
 use Rattle.heap_class.specs.declared.ObjRef.{ObjRef}
 use Rattle.hprof_text.specs.Image.{Image}
 use Rattle.heap_questions.specs.Graph.{named, object_with}
+use Rattle.heap_questions.specs.Hops.{AreHops}
 use Rattle.heap_questions.specs.Search.{AreNodes, IsFirstNaming, with_registers}
 use Rattle.heap_questions.specs.declared.nodes.Node.{Node}
+use Rattle.heap_questions.specs.declared.paths.Hop.{Hop}
 
 pub own_registers : (image : Image) → with_registers image image.registers ≡ image
 own_registers image = refl
@@ -24,3 +26,7 @@ pub same_first_naming : (image : Image) (registers : List ℕ) (nodes : List Nod
 same_first_naming image registers nodes j k s f x y t ex ey names =
     let h = f x y t ex ey (sym (same_named image registers x t) ∙ names) in
     (same_named image registers x s ∙ h.0, h.1)
+
+pub own_hops : (image : Image) (registers : List ℕ) (y : ℕ) (hops : List Hop) → AreHops (with_registers image registers) y hops → AreHops image y hops
+own_hops image registers y [] h = tt
+own_hops image registers y (p ∷ ps) h = (sym (same_named image registers y p.slot) ∙ h.0, own_hops image registers p.to ps h.1)

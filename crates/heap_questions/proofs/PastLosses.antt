@@ -14,6 +14,7 @@ use Rattle.heap_questions.specs.declared.paths.Path.{Path}
 use Rattle.heap_trail.specs.Laws.{IsTrail}
 use Rattle.heap_trail.specs.Trail.{Trail, retained, state_ago}
 use Rattle.heap_questions.specs.Changes.{IsBirth, IsOld}
+use Rattle.heap_questions.specs.Hops.{slots_of}
 use Rattle.heap_questions.specs.Losses.{HasStood, IsLostAt, IsNeverReached, IsNewest, LeavesOut, UnreachedFor, id_now}
 use Rattle.heap_questions.proofs.ImagePaths.{path_is_reach}
 use Rattle.heap_questions.proofs.PastIds.{unreached_since}
@@ -21,13 +22,13 @@ use Rattle.heap_questions.proofs.Walk.{now_is}
 
 -- ---- a search of one state
 
-pub told_by_path : (w : HeapState) (image : Image) (x : ℕ) (found : Option Path) → IsLegal w → image ≡ image_of w → IfSome found (λ p. IsPathTo image p.register p.slots.items x) → IfNone found (IsUnreached image x) → IsTrue (is_some found) ↔ Reaches w x
+pub told_by_path : (w : HeapState) (image : Image) (x : ℕ) (found : Option Path) → IsLegal w → image ≡ image_of w → IfSome found (λ p. IsPathTo image p.register (slots_of p.hops.items) x) → IfNone found (IsUnreached image x) → IsTrue (is_some found) ↔ Reaches w x
 told_by_path w image x None legal e p n = (
   λ t. absurd (false≢true t),
   λ r. (let q = (path_is_reach w x legal).1 r in absurd (subst (λ (i : Image). IsUnreached i x) e n q.0 q.1 q.2)),
 )
 told_by_path w image x (Some p) legal e h n = (
-  λ t. (path_is_reach w x legal).0 (p.register, p.slots.items, subst (λ (i : Image). IsPathTo i p.register p.slots.items x) e h),
+  λ t. (path_is_reach w x legal).0 (p.register, slots_of p.hops.items, subst (λ (i : Image). IsPathTo i p.register (slots_of p.hops.items) x) e h),
   λ r. refl,
 )
 

@@ -10,6 +10,7 @@ use Rattle.std.proofs.lemmas.Option.{none-some, slice_get_within}
 use Rattle.heap_class.specs.declared.ObjRef.{ObjRef}
 use Rattle.hprof_text.specs.Image.{Image, IsDumpable}
 use Rattle.heap_questions.specs.Graph.{HasId, followed, IsFirstPath, IsPathTo, IsShortest, IsUnreached}
+use Rattle.heap_questions.specs.Hops.{slots_of}
 use Rattle.heap_questions.specs.PathsApart.{IsNextPath, IsNoLater, NoneIsLeft, Route, StartAlike, route_of}
 use Rattle.heap_questions.specs.Search.{AreNodes, node_with, slot_span}
 use Rattle.heap_questions.specs.Starts.{IsFirstFree, NoneIsFree, starts_at, starts_by, with_starts}
@@ -182,7 +183,7 @@ none_free_more registers earlier x r before here q l e = elim (cases_lt q r) [
 -- ---- path by path
 
 -- a path with these parts
-pub route_is : (p : Path) (r : ℕ) (slots : List ℕ) → p.register ≡ r → p.slots.items ≡ slots → route_of p ≡ record { register = r; slots = slots }
+pub route_is : (p : Path) (r : ℕ) (slots : List ℕ) → p.register ≡ r → slots_of p.hops.items ≡ slots → route_of p ≡ record { register = r; slots = slots }
 route_is p r slots a b = ap₂ (λ (n : ℕ) (l : List ℕ). let route : Route = record { register = n; slots = l } in route) a b
 
 -- one more path

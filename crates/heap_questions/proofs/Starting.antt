@@ -145,6 +145,17 @@ path_of_start image earlier i slots x p = go (slice_get (with_starts image earli
           free = start.free;
         }
 
+-- what its start names
+pub start_told : (image : Image) (earlier : List Route) (i : ℕ) (slots : List ℕ) (x y : ℕ) → IsPathTo (with_starts image earlier) i slots x → slice_get (with_starts image earlier).registers i ≡ Some y → IsStart image earlier (i / slot_span) (i % slot_span) y
+start_told image earlier i slots x y p same =
+    let there : HasId image x = subst (λ (o : Option DumpedObject). IsSome o) (same_object_with image (with_starts image earlier).registers x) p.there in
+    let led : followed image y slots ≡ Some x = sym (same_followed image (with_starts image earlier).registers slots y) ∙ sym (ap (option_and_then (λ z. followed (with_starts image earlier) z slots)) same) ∙ p.leads in
+    start_found image earlier i y same (first_object image y slots x led there)
+
+-- a start leads on from what its register names
+pub start_leads : (image : Image) (earlier : List Route) (r s y z : ℕ) → IsStart image earlier r s y → slice_get image.registers r ≡ Some z → named image z s ≡ Some y
+start_leads image earlier r s y z start names = subst (λ (w : ℕ). named image w s ≡ Some y) (same_Some start.first z (sym start.names ∙ names)) start.leads
+
 -- so is each path that begins with a slot
 pub start_of_path : (image : Image) (earlier : List Route) (r s : ℕ) (slots : List ℕ) (x : ℕ) → IsDumpable image → list_any (starts_by r s) earlier ≡ false → IsPathTo image r (s ∷ slots) x → IsPathTo (with_starts image earlier) (r * slot_span + s) slots x
 start_of_path image earlier r s slots x d free p = go (slice_get image.registers r) refl p.leads

@@ -1,8 +1,9 @@
 -- The way back from what a search found, entry by entry.
 use Rattle.std.proofs.Common.{◌≡◌, ◌≢◌, ℕ, ◌+◌, ◌-◌, ◌<◌, ◌≤◌, ◌++◌, ◌∷◌, [], false, cond, List, length, refl, sym, ap, ap₂, ◌∙◌, subst, inl, inr, arith}
-use Rattle.std.specs.Prelude.{slice_get, Option, Some, None, IfSome, ◌==◌}
+use Rattle.std.specs.Prelude.{slice_get, Option, Some, None, IfSome, ◌==◌, reverse}
 use Rattle.std.specs.Option.{option_map_or}
 use Rattle.std.proofs.lemmas.Bool.{cases_lt, eq-eqb, true≢false}
+use Rattle.std.proofs.lemmas.List.{map_push, reverse-append}
 use Rattle.std.proofs.lemmas.Option.{slice_get_within}
 use Rattle.heap_class.specs.declared.ObjKind.{ObjKind}
 use Rattle.heap_class.specs.declared.ObjRef.{ObjRef}
@@ -11,14 +12,16 @@ use Rattle.hprof_text.specs.Image.{Image, DumpedObject, IsDumpable}
 use Rattle.hprof_text.proofs.Loops.{item_of_list_within}
 use Rattle.hprof_text.proofs.ViewedObjects.{here}
 use Rattle.heap_questions.specs.Graph.{named, slot_names, slot_refers}
+use Rattle.heap_questions.specs.Hops.{AreHops, slots_of}
 use Rattle.heap_questions.specs.Referrers.{names_at}
-use Rattle.heap_questions.specs.Search.{AreNodes, Earlier, Found, IsFirstNaming, IsFirstSlotTo, IsQueueOf, IsReachedBy, Register, Slot, Via, entry_of, from_via, source_limit}
+use Rattle.heap_questions.specs.Search.{AreNodes, Earlier, Found, IsFirstNaming, IsFirstSlotTo, IsQueueOf, IsReachedBy, Register, Slot, Via, entry_of, from_via, node_with, source_limit}
 use Rattle.heap_questions.specs.declared.nodes.Node.{Node}
+use Rattle.heap_questions.specs.declared.paths.Hop.{Hop}
 use Rattle.heap_questions.specs.declared.search.Entry.{Entry}
 use Rattle.heap_questions.proofs.LongerLists.{got_same}
 use Rattle.heap_questions.proofs.Looking.{entry_there, named_is, slot_within}
-use Rattle.heap_questions.proofs.NodePlaces.{node_at, node_place, object_of_node}
-use Rattle.heap_questions.proofs.TracedPaths.{GoesOn, goes_on_more}
+use Rattle.heap_questions.proofs.NodePlaces.{node_at, node_place, node_within, object_of_node}
+use Rattle.heap_questions.proofs.TracedPaths.{GoesOn, goes_on, goes_on_more}
 
 -- ---- what an entry keeps of a way
 
@@ -74,9 +77,20 @@ lower image nodes entries queue k f e next q b is =
       | inr ge ↦ let c = by_slot image nodes entries queue b.parent b.other next q b.there is ge in let from = b.from in let other = c.from in let before = c.before in omega (arith, from, other, before)
     ]
 
--- a way back goes on from what an entry keeps
-abbrev pub GoesOnFrom : List Found → ℕ → Entry → List ℕ → Type 0
-GoesOnFrom queue index e slots = (f : Found) × (entry_of f ≡ e) × GoesOn queue index f slots
+-- a way back goes on from what an entry keeps, and these steps, the last first, lead on from there
+pub record GoesOnFrom (image : Image) (queue : List Found) (index : ℕ) (e : Entry) (hops : List Hop) : Type 0 where
+  pub here : Found
+  pub kept : entry_of here ≡ e
+  pub on : GoesOn queue index here (slots_of hops)
+  pub ids : AreHops image here.id (reverse hops)
+
+-- it begins there
+pub goes_on_first : (image : Image) (queue : List Found) (index : ℕ) (e : Entry) (f : Found) → slice_get queue index ≡ Some f → entry_of f ≡ e → GoesOnFrom image queue index e []
+goes_on_first image queue index e f there is = record { here = f; kept = is; on = goes_on queue index f there; ids = tt }
+
+-- the id of a node is that with which it is found
+pub id_told : (nodes : List Node) (x k id : ℕ) → node_with nodes x ≡ Some k → ((n : Node) → slice_get nodes k ≡ Some n → id ≡ n.id) → id ≡ x
+id_told nodes x k id e told = let n = item_of_list_within nodes k (node_within nodes x k e) in told n.0 n.1 ∙ node_at nodes x k n.0 e n.1
 
 -- ---- the slot
 
@@ -98,21 +112,30 @@ pub record HasParent (image : Image) (entries : List Entry) (queue : List Found)
   pub by : IsBySlot image queue k f e
   pub there : slice_get entries (e.from - source_limit) ≡ Some (entry_of by.other)
 
-pub parent_found : (image : Image) (nodes : List Node) (entries : List Entry) (queue : List Found) (index : ℕ) (e : Entry) (slots : List ℕ) → IsQueueOf image nodes entries queue → (v : GoesOnFrom queue index e slots) → source_limit ≤ e.from → HasParent image entries queue v.2.0 v.0 e
-parent_found image nodes entries queue index e slots q v l =
-    let b = by_slot image nodes entries queue v.2.0 v.0 e q v.2.1 v.1 l in
+pub parent_found : (image : Image) (nodes : List Node) (entries : List Entry) (queue : List Found) (index : ℕ) (e : Entry) (hops : List Hop) → IsQueueOf image nodes entries queue → (v : GoesOnFrom image queue index e hops) → source_limit ≤ e.from → HasParent image entries queue v.on.0 v.here e
+parent_found image nodes entries queue index e hops q v l =
+    let b = by_slot image nodes entries queue v.on.0 v.here e q v.on.1 v.kept l in
     let place : e.from - source_limit ≡ b.parent = (let from = b.from in omega (arith, from)) in
     record { by = b; there = ap (slice_get entries) place ∙ entry_there entries queue b.parent b.other q.kept b.there }
 
--- so a way back goes on from there, with one slot more
-pub goes_on_back : (image : Image) (nodes : List Node) (entries : List Entry) (queue : List Found) (index : ℕ) (e next : Entry) (slots : List ℕ) (s : ℕ) → IsQueueOf image nodes entries queue → GoesOnFrom queue index e slots → source_limit ≤ e.from → slice_get entries (e.from - source_limit) ≡ Some next
-    → IsFirstNaming image nodes next.node e.node s → GoesOnFrom queue index next (slots ++ s ∷ [])
-goes_on_back image nodes entries queue index e next slots s q v l h naming =
-    let p = parent_found image nodes entries queue index e slots q v l in
+-- so a way back goes on from there, with one step more
+pub goes_on_back : (image : Image) (nodes : List Node) (entries : List Entry) (queue : List Found) (index : ℕ) (e next : Entry) (hops : List Hop) (h : Hop) → IsQueueOf image nodes entries queue → (v : GoesOnFrom image queue index e hops) → source_limit ≤ e.from → slice_get entries (e.from - source_limit) ≡ Some next
+    → IsFirstNaming image nodes next.node e.node h.slot → h.to ≡ v.here.id → GoesOnFrom image queue index next (hops ++ h ∷ [])
+goes_on_back image nodes entries queue index e next hops h q v l got naming to =
+    let p = parent_found image nodes entries queue index e hops q v l in
     let b = p.by in
-    let same : entry_of b.other ≡ next = got_same entries (e.from - source_limit) (entry_of b.other) next p.there h in
-    let slot = same_slot image nodes entries queue v.2.0 v.0 e next s q v.2.1 v.1 b same naming in
-    (b.other, same, goes_on_more queue index v.0 b.other slots b.parent s v.2 (b.by ∙ ap (λ n. Slot n b.parent) (sym slot)) b.there)
+    let same : entry_of b.other ≡ next = got_same entries (e.from - source_limit) (entry_of b.other) next p.there got in
+    let slot = same_slot image nodes entries queue v.on.0 v.here e next h.slot q v.on.1 v.kept b same naming in
+    let of_other = q.placed b.parent b.other b.there ∙ ap (λ (e : Entry). Some e.node) same in
+    let of_here = q.placed v.on.0 v.here v.on.1 ∙ ap (λ (e : Entry). Some e.node) v.kept in
+    let names : named image b.other.id h.slot ≡ Some v.here.id = (naming b.other.id v.here.id b.slot of_other of_here b.names).0 in
+    record {
+      here = b.other;
+      kept = same;
+      on = subst (GoesOn queue index b.other) (sym (map_push (λ (h : Hop). h.slot) hops h))
+          (goes_on_more queue index v.here b.other (slots_of hops) b.parent h.slot v.on (b.by ∙ ap (λ n. Slot n b.parent) (sym slot)) b.there);
+      ids = subst (AreHops image b.other.id) (sym (reverse-append hops (h ∷ []))) (names ∙ ap Some (sym to), subst (λ (y : ℕ). AreHops image y (reverse hops)) (sym to) v.ids);
+    }
 
 -- the object of a node, by what a view tells of it, names another's by this slot first
 pub first_naming : (image : Image) (places : List ObjRef) (nodes : List Node) (j k s id : ℕ) (at : ObjRef) (kind : ObjKind) (words : List ℕ) (classes : List Class) → AreNodes image places nodes → j < length nodes → k < length nodes

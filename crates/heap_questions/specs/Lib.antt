@@ -6,6 +6,7 @@ pub mod Search
 pub mod Garbage
 pub mod Dominators
 pub mod Kept
+pub mod Hops
 pub mod PathsApart
 pub mod Starts
 pub mod Wanted

@@ -2,6 +2,7 @@
 use Rattle.std.specs.Prelude.{◌≡◌, ◌⊎◌, ◌<◌, ℕ, List, ◌∷◌, All, length, slice_get, take, Some}
 use Rattle.hprof_text.specs.Image.{Image}
 use Rattle.heap_questions.specs.Graph.{AreAtMost, IsPathTo}
+use Rattle.heap_questions.specs.Hops.{slots_of}
 use Rattle.heap_questions.specs.declared.paths.Path.{Path}
 
 -- a path: its register, and the slots that lead on
@@ -11,7 +12,7 @@ pub record Route : Type 0 where
 
 -- the path that was found
 abbrev pub route_of : Path → Route
-route_of p = record { register = p.register; slots = p.slots.items }
+route_of p = record { register = p.register; slots = slots_of p.hops.items }
 
 -- both start at the same register, by the same slot or by none
 abbrev pub StartAlike : Route → Route → Type 0

@@ -6,6 +6,7 @@ use Rattle.hprof_text.specs.Image.{DumpedObject, Image}
 use Rattle.heap_questions.specs.Graph.{named}
 use Rattle.heap_questions.specs.PathsApart.{Route}
 use Rattle.heap_questions.specs.Search.{slot_span, with_registers}
+use Rattle.heap_questions.specs.declared.paths.Hop.{Hop}
 
 -- the path is a register alone, and this one
 abbrev pub starts_at : ℕ → Route → Bool
@@ -40,6 +41,10 @@ abbrev pub with_starts : Image → List Route → Image
 with_starts image earlier =
     let starts = range_with_len 0 (length image.registers * slot_span) in
     with_registers image (map (start_id image earlier) starts)
+
+-- the step that start i is, which leads to y
+abbrev pub first_hop : ℕ → ℕ → Hop
+first_hop i y = record { slot = i % slot_span; to = y }
 
 -- of the registers that name x and at which no earlier path of no slots starts, r is the first
 pub record IsFirstFree (registers : List ℕ) (earlier : List Route) (x : ℕ) (r : ℕ) : Type 0 where

@@ -1,15 +1,16 @@
 //! Why an object is alive, in several ways: paths of which no two start alike.
-ghost use Rattle.std.specs.Prelude.{◌≡◌, ◌∷◌, ◌/◌, ◌%◌, ◌&&◌, [], ℕ, map, not, reverse, Some, IfSome, IfNone, IfOk, IfErr};
+ghost use Rattle.std.specs.Prelude.{◌≡◌, ◌∷◌, ◌/◌, ◌%◌, ◌<◌, ◌&&◌, [], ℕ, All, length, map, not, reverse, slice_get, Some, IfSome, IfNone, IfOk, IfErr};
 ghost use Rattle.std.specs.List.{list_any};
 ghost use Rattle.heap_class.specs.declared.Refusal.TheVariants.{NoMemory};
 ghost use Rattle.heap_questions.specs.Graph.{IsFirstPath, IsShortest};
 ghost use Rattle.hprof_text.specs.Image.{Image};
+ghost use Rattle.heap_questions.specs.Hops.{TellsIds};
 ghost use Rattle.heap_questions.specs.PathsApart.{AreFirstPaths, IsNextPath, NoneIsLeft, Route, route_of};
 ghost use Rattle.heap_questions.specs.Search.{AreNodes, HasSearchedFor, node_with, slot_span};
-ghost use Rattle.heap_questions.specs.Starts.{IsFirstFree, NoneIsFree, starts_at, with_starts};
+ghost use Rattle.heap_questions.specs.Starts.{IsFirstFree, NoneIsFree, first_hop, starts_at, with_starts};
 
 use crate::nodes::NodeList;
-use crate::paths::{Path, WayBack, place_in, way_back};
+use crate::paths::{Hop, Path, WayBack, place_in, way_back};
 use crate::search::{Reach, SLOT_SPAN, nothing_found, search_on};
 use crate::starts::find_starts;
 use heap_class::Refusal;
@@ -35,6 +36,7 @@ pub fn paths_apart<V: View>(
 ) -> Result<Vec<Path>, Refusal>
     ensures paths { IfOk result
         (λ paths. AreFirstPaths (V.image view.now) most id (map route_of paths.items)) }
+    ensures ids { IfOk result (λ paths. All (TellsIds (V.image view.now)) paths.items) }
     ensures refused { IfErr result (λ e. e ≡ NoMemory) }
 {
     let nodes = NodeList::new(alloc, view)?;
@@ -60,6 +62,7 @@ fn next_path<V: View>(
     requires { AreNodes (V.image view.now) (V.places view.now) nodes.now }
     ensures next { IfOk result (λ found. IfSome found (λ p.
         IsNextPath (V.image view.now) (map route_of paths.now) id (route_of p))) }
+    ensures ids { IfOk result (λ found. IfSome found (TellsIds (V.image view.now))) }
     ensures none { IfOk result (λ found. IfNone found
         (NoneIsLeft (V.image view.now) (map route_of paths.now) id)) }
     ensures refused { IfErr result (λ e. e ≡ NoMemory) }
@@ -83,14 +86,19 @@ fn next_path_to<V: View>(
     requires goal { node_with nodes.now id ≡ Some goal }
     ensures next { IfOk result (λ found. IfSome found (λ p.
         IsNextPath (V.image view.now) (map route_of paths.now) id (route_of p))) }
+    ensures ids { IfOk result (λ found. IfSome found (TellsIds (V.image view.now))) }
     ensures none { IfOk result (λ found. IfNone found
         (NoneIsLeft (V.image view.now) (map route_of paths.now) id)) }
     ensures refused { IfErr result (λ e. e ≡ NoMemory) }
 {
     match free_register(view.registers(), id, paths) {
         Some(register) => {
-            let slots = Vec::new(alloc);
-            Ok(Some(Path { register, slots }))
+            let hops = Vec::new(alloc);
+            Ok(Some(Path {
+                register,
+                start: id,
+                hops,
+            }))
         }
         None => path_by_slot(alloc, view, nodes, id, goal, paths),
     }
@@ -121,9 +129,15 @@ fn is_free(paths: &[Path], register: u64, names: bool) -> bool
 fn is_register_used(paths: &[Path], register: u64) -> bool
     ensures { result ≡ list_any (λ p. starts_at register (route_of p)) paths.now }
 {
-    paths
-        .iter()
-        .any(|path| path.register == register && path.slots.is_empty())
+    paths.iter().any(|path| is_register_alone(path, register))
+}
+
+// Tells whether a path is this register alone.
+#[tactic(auto, using(crate::proofs::Hops::as_many_slots))]
+fn is_register_alone(path: &Path, register: u64) -> bool
+    ensures { result ≡ starts_at register (route_of path.now) }
+{
+    path.register == register && path.hops.is_empty()
 }
 
 // Returns the first path to the object with this id, which is that of a node, that starts like none of these paths. At each
@@ -141,6 +155,7 @@ fn path_by_slot<V: View>(
     requires used { NoneIsFree (V.image view.now).registers (map route_of paths.now) id }
     ensures next { IfOk result (λ found. IfSome found (λ p.
         IsNextPath (V.image view.now) (map route_of paths.now) id (route_of p))) }
+    ensures ids { IfOk result (λ found. IfSome found (TellsIds (V.image view.now))) }
     ensures none { IfOk result (λ found. IfNone found
         (NoneIsLeft (V.image view.now) (map route_of paths.now) id)) }
     ensures refused { IfErr result (λ e. e ≡ NoMemory) }
@@ -152,7 +167,7 @@ fn path_by_slot<V: View>(
     match place_in(queue, goal) {
         Some(index) => {
             let way = way_back(alloc, view, nodes, queue, index)?;
-            let path = path_from_start(way)?;
+            let path = path_from_start(view.registers(), way)?;
             Ok(Some(path))
         }
         None => Ok(None),
@@ -181,15 +196,24 @@ fn search_starts<V: View>(
     Ok(reach)
 }
 
-// Returns the path that a way leads back to a start. Fails if an allocation fails.
-fn path_from_start(way: WayBack) -> Result<Path, AllocError>
+// Returns the path that a way leads back to a start, whose register must be one of these. Fails if an allocation fails.
+fn path_from_start(registers: &[u64], way: WayBack) -> Result<Path, AllocError>
+    requires { way.register / slot_span < length registers.now }
     ensures register { IfOk result (λ p. p.register ≡ way.register / slot_span) }
-    ensures slots { IfOk result
-        (λ p. p.slots.items ≡ (way.register % slot_span) ∷ reverse way.slots.items) }
+    ensures start { IfOk result (λ p. slice_get registers.now p.register ≡ Some p.start) }
+    ensures hops { IfOk result
+        (λ p. p.hops.items ≡ first_hop way.register way.start ∷ reverse way.hops.items) }
 {
-    let mut slots = way.slots;
-    slots.push((way.register % SLOT_SPAN) as u64)?;
-    slots.reverse();
+    let mut hops = way.hops;
+    let slot = (way.register % SLOT_SPAN) as u64;
+    let to = way.start;
+    hops.push(Hop { slot, to })?;
+    hops.reverse();
     let register = (way.register / SLOT_SPAN) as u64;
-    Ok(Path { register, slots })
+    let start = registers[register as usize];
+    Ok(Path {
+        register,
+        start,
+        hops,
+    })
 }

@@ -41,7 +41,7 @@ pub use past::{
     ended_cycles, first_many, first_wanted, history, last_write, lives_of, loss_of, path_is_reach,
     slot_changes, slot_now, slot_writes, unreached_stays,
 };
-pub use paths::{Path, shortest_path};
+pub use paths::{Hop, Path, shortest_path};
 pub use references::{Referrer, referrers};
 pub use region_counts::{RegionCounts, count_region};
 pub use registers::{NamedObject, named_by_registers};

@@ -1,9 +1,10 @@
 //! Why an object is alive: a shortest path from a register.
-ghost use Rattle.std.specs.Prelude.{◌≡◌, ◌==◌, ◌<◌, ℕ, List, Some, length, reverse, IfSome, IfNone, IfOk, IfErr};
+ghost use Rattle.std.specs.Prelude.{◌≡◌, ◌==◌, ◌<◌, ℕ, List, Some, length, reverse, slice_get, IfSome, IfNone, IfOk, IfErr};
 ghost use Rattle.std.specs.List.{position};
 ghost use Rattle.heap_class.specs.declared.Refusal.TheVariants.{NoMemory};
 ghost use Rattle.hprof_text.specs.Image.{DumpedObject, IsKnown};
 ghost use Rattle.heap_questions.specs.Graph.{IsFirstPath, IsPathTo, IsShortest, IsUnreached};
+ghost use Rattle.heap_questions.specs.Hops.{AreHops, TellsIds, slots_of};
 ghost use Rattle.heap_questions.specs.Search.{AreNodes, Found, IsFirstNaming, IsFirstSlotTo, IsQueueOf, IsWayBack, node_with, with_registers};
 
 use crate::nodes::NodeList;
@@ -13,30 +14,40 @@ use heap_class::{FirstClasses, ObjKind, Refusal};
 use hprof_text::View;
 use std::alloc::Global;
 
-/// A path from a register: its number among all registers, and the slots that lead on, one after another.
+/// A step of a path: the slot that is followed, and the id of the object that it names.
+#[derive(Clone, Copy)]
+pub struct Hop {
+    pub slot: u64,
+    pub to: u64,
+}
+
+/// A path from a register: its number among all registers, the id that it holds, and the steps that lead on, one after another.
 #[derive(Drop)]
 pub struct Path {
     pub register: u64,
-    pub slots: Vec<u64>,
+    pub start: u64,
+    pub hops: Vec<Hop>,
 }
 
-// The way back from an object that a search found: the number of the register that it began at, among those of the search, and
-// the slots that lead on from there, the last first.
+// The way back from an object that a search found: the number of the register that it began at, among those of the search, the id
+// that this holds, and the steps that lead on from there, the last first.
 #[derive(Drop)]
 pub(crate) struct WayBack {
     pub(crate) register: u32,
-    pub(crate) slots: Vec<u64>,
+    pub(crate) start: u64,
+    pub(crate) hops: Vec<Hop>,
 }
 
 /// Returns a shortest path from a register to the object with this id, or None if no register reaches one: of all the shortest
 /// the first by register, then by slot. Reads each object at most twice. Fails with NoMemory.
 pub fn shortest_path<V: View>(alloc: Global, view: &V, id: u64) -> Result<Option<Path>, Refusal>
     ensures path { IfOk result (λ found. IfSome found (λ p.
-        IsPathTo (V.image view.now) p.register p.slots.items id)) }
+        IsPathTo (V.image view.now) p.register (slots_of p.hops.items) id)) }
     ensures shortest { IfOk result (λ found. IfSome found (λ p.
-        IsShortest (V.image view.now) p.slots.items id)) }
+        IsShortest (V.image view.now) (slots_of p.hops.items) id)) }
     ensures first { IfOk result (λ found. IfSome found (λ p.
-        IsFirstPath (V.image view.now) p.register p.slots.items id)) }
+        IsFirstPath (V.image view.now) p.register (slots_of p.hops.items) id)) }
+    ensures ids { IfOk result (λ found. IfSome found (TellsIds (V.image view.now))) }
     ensures none { IfOk result (λ found. IfNone found (IsUnreached (V.image view.now) id)) }
     ensures refused { IfErr result (λ e. e ≡ NoMemory) }
 {
@@ -58,11 +69,12 @@ fn path_to<V: View>(
     requires nodes { AreNodes (V.image view.now) (V.places view.now) nodes.now }
     requires goal { node_with nodes.now id ≡ Some goal }
     ensures path { IfOk result (λ found. IfSome found (λ p.
-        IsPathTo (V.image view.now) p.register p.slots.items id)) }
+        IsPathTo (V.image view.now) p.register (slots_of p.hops.items) id)) }
     ensures shortest { IfOk result (λ found. IfSome found (λ p.
-        IsShortest (V.image view.now) p.slots.items id)) }
+        IsShortest (V.image view.now) (slots_of p.hops.items) id)) }
     ensures first { IfOk result (λ found. IfSome found (λ p.
-        IsFirstPath (V.image view.now) p.register p.slots.items id)) }
+        IsFirstPath (V.image view.now) p.register (slots_of p.hops.items) id)) }
+    ensures ids { IfOk result (λ found. IfSome found (TellsIds (V.image view.now))) }
     ensures none { IfOk result (λ found. IfNone found (IsUnreached (V.image view.now) id)) }
     ensures refused { IfErr result (λ e. e ≡ NoMemory) }
 {
@@ -80,12 +92,18 @@ fn path_to<V: View>(
 // Returns the path that a way leads back.
 fn path_along(way: WayBack) -> Path
     ensures register { result.register ≡ way.register }
-    ensures slots { result.slots.items ≡ reverse way.slots.items }
+    ensures start { result.start ≡ way.start }
+    ensures hops { result.hops.items ≡ reverse way.hops.items }
 {
-    let mut slots = way.slots;
-    slots.reverse();
+    let mut hops = way.hops;
+    hops.reverse();
     let register = way.register as u64;
-    Path { register, slots }
+    let start = way.start;
+    Path {
+        register,
+        start,
+        hops,
+    }
 }
 
 // Returns the place of a node in a queue, or None if it isn't there.
@@ -110,19 +128,29 @@ pub(crate) fn way_back<V: View>(
     requires there { index < length queue.now }
     ensures chain { IfOk result (λ way. (registers : List ℕ) (q : List Found)
         → IsQueueOf (with_registers (V.image view.now) registers) nodes.now queue.now q
-        → IsWayBack q index way.register way.slots.items) }
+        → IsWayBack q index way.register (slots_of way.hops.items)) }
+    ensures ids { IfOk result (λ way. (registers : List ℕ) (q : List Found)
+        → IsQueueOf (with_registers (V.image view.now) registers) nodes.now queue.now q
+        → (slice_get registers way.register ≡ Some way.start)
+        × AreHops (V.image view.now) way.start (reverse way.hops.items)) }
     ensures refused { IfErr result (λ e. e ≡ NoMemory) }
 {
-    let mut slots = Vec::new(alloc);
+    let mut hops = Vec::new(alloc);
     let mut here = entry_at(queue, index);
     while here.from >= FIRST_PLACE {
         let parent = entry_at(queue, (here.from - FIRST_PLACE) as usize);
         let slot = naming_slot(view, nodes, parent.node as usize, here.node as usize);
-        slots.push(slot)?;
+        let to = nodes.id(here.node as usize);
+        hops.push(Hop { slot, to })?;
         here = parent;
     }
     let register = here.from;
-    Ok(WayBack { register, slots })
+    let start = nodes.id(here.node as usize);
+    Ok(WayBack {
+        register,
+        start,
+        hops,
+    })
 }
 
 // Returns the first slot of a node's object that names another's. The nodes must be the view's.

@@ -3,7 +3,7 @@ ghost use Rattle.std.specs.Prelude.{◌≡◌, ◌+◌, ◌≤◌};
 ghost use Rattle.heap_region.specs.Limits.{cell_limit};
 ghost use Rattle.heap_questions.specs.RegionCounts.{counts_of};
 
-use heap_region::Storage;
+use heap_region::RegionView;
 
 /// The objects of a region: how many are live, and how many aren't.
 #[derive(Clone, Copy)]
@@ -13,7 +13,7 @@ pub struct RegionCounts {
 }
 
 /// Counts the objects of a region: at most 256. Looks at each cell once. Takes no memory.
-pub fn count_region(storage: &Storage) -> RegionCounts
+pub fn count_region(storage: &RegionView<'_>) -> RegionCounts
     ensures counts { result ≡ counts_of storage.now }
     ensures few { result.live + result.dead ≤ cell_limit }
 {

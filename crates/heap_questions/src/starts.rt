@@ -5,12 +5,13 @@ ghost use Rattle.std.specs.Option.{option_map_or};
 ghost use Rattle.heap_class.specs.declared.Refusal.TheVariants.{NoMemory};
 ghost use Rattle.hprof_text.specs.Image.{IsKnown, register_limit};
 ghost use Rattle.heap_questions.specs.Graph.{slot_refers};
+ghost use Rattle.heap_questions.specs.Hops.{slots_of};
 ghost use Rattle.heap_questions.specs.PathsApart.{route_of};
 ghost use Rattle.heap_questions.specs.Search.{AreNodes, IsBeginning, IsNodeOfRegister, IsSearch, IsSearching, slot_span};
 ghost use Rattle.heap_questions.specs.Starts.{starts_by, with_starts};
 
 use crate::nodes::NodeList;
-use crate::paths::Path;
+use crate::paths::{Hop, Path};
 use crate::references::is_reference_slot;
 use crate::search::{Reach, SLOT_SPAN, offer};
 use heap_class::{FirstClasses, ObjKind, Refusal};
@@ -104,15 +105,16 @@ fn is_start_used(paths: &[Path], register: u64, slot: u64) -> bool
 fn starts_by(path: &Path, register: u64, slot: u64) -> bool
     ensures { result ≡ starts_by register slot (route_of path.now) }
 {
-    path.register == register && begins_with(path.slots.as_slice(), slot)
+    path.register == register && begins_with(path.hops.as_slice(), slot)
 }
 
-// Tells whether this slot is the first.
-fn begins_with(slots: &[u64], slot: u64) -> bool
-    ensures { result ≡ option_map_or (λ t. t == slot) (slice_get slots.now 0) false }
+// Tells whether this slot is the first that is followed.
+#[tactic(auto, using(crate::proofs::Hops::first_slot))]
+fn begins_with(hops: &[Hop], slot: u64) -> bool
+    ensures { result ≡ option_map_or (λ t. t == slot) (slice_get (slots_of hops.now) 0) false }
 {
-    match slots.first() {
-        Some(first) => *first == slot,
+    match hops.first() {
+        Some(first) => first.slot == slot,
         None => false,
     }
 }

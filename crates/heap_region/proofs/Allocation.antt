@@ -13,7 +13,7 @@ use Rattle.heap_class.specs.Limits.{large_array_limit}
 use Rattle.heap_class.specs.Refusals.{first_refusal}
 use Rattle.heap_region.specs.Regions.{Object, UsedRegion, Region, InUse, used_at, object_at, object_base, id_of, cell_around, ref_of, object_of, in_used, with_region, cell_count, cell_size_for, regions_for, FitsWords}
 use Rattle.heap_region.specs.Pool.{RegionPool, fresh_region, free_place, first_run, place_or_fresh, new_place, alloc_refusal, is_fresh, blank_object, taken, restored, allocated}
-use Rattle.heap_region.specs.Layout.{Heads, cell_filled}
+use Rattle.heap_region.specs.Layout.{Heads, cell_filled, header_of}
 use Rattle.heap_region.specs.Table.{HasObject}
 use Rattle.heap_region.proofs.UpdatedLists.{updated_set}
 use Rattle.heap_region.proofs.Places.{IsNextFree, IsNextFresh, new_place_is, place_of_large, place_of_small}
@@ -91,6 +91,10 @@ allocated_fresh r n o s long =
 pub blank_length : (kind : ObjKind) (n : ℕ) (mark : Bool) → length (blank_object kind n mark).words ≡ n
 unfolding blank_object
 blank_length kind n mark = length-replicate n 0
+
+pub blank_header : (kind : ObjKind) (n : ℕ) (mark : Bool) → record { kind = kind; len = n; live = true; mark = mark } ≡ header_of (blank_object kind n mark)
+unfolding blank_object
+blank_header kind n mark = ap (λ (k : ℕ). record { kind = kind; len = k; live = true; mark = mark }) (sym (length-replicate n 0))
 
 -- the first cell of a fresh region
 pub fresh_heads : (n : ℕ) → Heads 0 (fresh_region (cell_size_for n)).free

@@ -60,11 +60,11 @@ lowest_stays_below_changed_region t region k n almost le = record {
   there = almost.there;
 }
 
--- ---- all classes
+-- ---- all classes but 0
 
 -- each class has its lowest region, where one region isn't looked at
 abbrev pub AreAlmost : List ℕ → ℕ → List ℕ → Type 0
-AreAlmost t region lowest = (k : ℕ) → k < 256 → IsAlmost t region k (get_or lowest k 0)
+AreAlmost t region lowest = (k : ℕ) → 1 ≤ k → k < 256 → IsAlmost t region k (get_or lowest k 0)
 
 -- a class whose lowest region changed is the one that the region had
 class_whose_lowest_region_changed : (t lowest : List ℕ) (region was k : ℕ) → IsLowest t k 0 (get_or lowest k 0) → region < length t → get_or t region 0 ≡ was → get_or lowest k 0 ≡ region → k ≡ was
@@ -72,31 +72,31 @@ class_whose_lowest_region_changed t lowest region was k low within is e =
     sym (low.there (omega (arith, e, within))) ∙ (ap (λ i. get_or t i 0) e ∙ is)
 
 pub lowest_regions_kept_almost : (t lowest : List ℕ) (region was class : ℕ) → AreLowest t lowest → region < length t → get_or t region 0 ≡ was → get_or lowest was 0 ≢ region → AreAlmost (set t region class) region lowest
-lowest_regions_kept_almost t lowest region was class low within is ne k lt =
-    unchanged_lowest_region_is_almost t region class k (get_or lowest k 0) (low k lt)
-    (λ e. ne (ap (λ i. get_or lowest i 0) (sym (class_whose_lowest_region_changed t lowest region was k (low k lt) within is e)) ∙ e))
+lowest_regions_kept_almost t lowest region was class low within is ne k some lt =
+    unchanged_lowest_region_is_almost t region class k (get_or lowest k 0) (low k some lt)
+    (λ e. ne (ap (λ i. get_or lowest i 0) (sym (class_whose_lowest_region_changed t lowest region was k (low k some lt) within is e)) ∙ e))
 
-pub lowest_regions_almost_after_search : (t lowest : List ℕ) (region was class next : ℕ) → AreLowest t lowest → region < length t → get_or t region 0 ≡ was → was < 256 → length lowest ≡ 256 → get_or lowest was 0 ≡ region → IsLowest (set t region class) was region next → AreAlmost (set t region class) region (set lowest was next)
-lowest_regions_almost_after_search t lowest region was class next low within is few sized at found k lt =
+pub lowest_regions_almost_after_search : (t lowest : List ℕ) (region was class next : ℕ) → AreLowest t lowest → region < length t → get_or t region 0 ≡ was → was < 256 → length lowest ≡ 256 → get_or lowest was 0 ≡ region → (1 ≤ was → IsLowest (set t region class) was region next) → AreAlmost (set t region class) region (set lowest was next)
+lowest_regions_almost_after_search t lowest region was class next low within is few sized at found k some lt =
     elim (cases_eq k was) [
-      | inl same ↦ rw (same, get_or-set_same lowest was next 0 (omega (arith, few, sized))) (next_lowest_region_is_almost t region class was next (subst (λ n. IsLowest t was 0 n) at (low was few)) found)
-      | inr other ↦ rw (get_or-set_other lowest was k next 0 other) (unchanged_lowest_region_is_almost t region class k (get_or lowest k 0) (low k lt) (λ e. other (class_whose_lowest_region_changed t lowest region was k (low k lt) within is e)))
+      | inl same ↦ (let more : 1 ≤ was = omega (arith, same, some) in rw (same, get_or-set_same lowest was next 0 (omega (arith, few, sized))) (next_lowest_region_is_almost t region class was next (subst (λ n. IsLowest t was 0 n) at (low was more few)) (found more)))
+      | inr other ↦ rw (get_or-set_other lowest was k next 0 other) (unchanged_lowest_region_is_almost t region class k (get_or lowest k 0) (low k some lt) (λ e. other (class_whose_lowest_region_changed t lowest region was k (low k some lt) within is e)))
     ]
 
 pub changed_region_becomes_lowest : (t lowest : List ℕ) (region class : ℕ) → AreAlmost (set t region class) region lowest → region < length t → class < 256 → length lowest ≡ 256 → region < get_or lowest class 0 → AreLowest (set t region class) (set lowest class region)
-changed_region_becomes_lowest t lowest region class almost within few sized under k lt =
+changed_region_becomes_lowest t lowest region class almost within few sized under k some lt =
     let here = get_or-set_same t region class 0 within in
     elim (cases_eq k class) [
-      | inl same ↦ rw (same, get_or-set_same lowest class region 0 (omega (arith, few, sized))) (changed_region_is_new_lowest (set t region class) region class (get_or lowest class 0) (almost class few) under here)
-      | inr other ↦ rw (get_or-set_other lowest class k region 0 other) (lowest_when_region_of_other_class (set t region class) region k (get_or lowest k 0) (almost k lt) (λ e. other (sym e ∙ here)))
+      | inl same ↦ (let more : 1 ≤ class = omega (arith, same, some) in rw (same, get_or-set_same lowest class region 0 (omega (arith, few, sized))) (changed_region_is_new_lowest (set t region class) region class (get_or lowest class 0) (almost class more few) under here))
+      | inr other ↦ rw (get_or-set_other lowest class k region 0 other) (lowest_when_region_of_other_class (set t region class) region k (get_or lowest k 0) (almost k some lt) (λ e. other (sym e ∙ here)))
     ]
 
 pub lowest_regions_stay_after_change : (t lowest : List ℕ) (region class : ℕ) → AreAlmost (set t region class) region lowest → region < length t → get_or lowest class 0 ≤ region → AreLowest (set t region class) lowest
-lowest_regions_stay_after_change t lowest region class almost within over k lt =
+lowest_regions_stay_after_change t lowest region class almost within over k some lt =
     let here = get_or-set_same t region class 0 within in
     elim (cases_eq k class) [
-      | inl same ↦ lowest_stays_below_changed_region (set t region class) region k (get_or lowest k 0) (almost k lt) (rw same over)
-      | inr other ↦ lowest_when_region_of_other_class (set t region class) region k (get_or lowest k 0) (almost k lt) (λ e. other (sym e ∙ here))
+      | inl same ↦ lowest_stays_below_changed_region (set t region class) region k (get_or lowest k 0) (almost k some lt) (rw same over)
+      | inr other ↦ lowest_when_region_of_other_class (set t region class) region k (get_or lowest k 0) (almost k some lt) (λ e. other (sym e ∙ here))
     ]
 
 -- ---- a new table
@@ -108,22 +108,14 @@ zero_class_at_each_place : (count j : ℕ) → j < count → get_or (replicate {
 zero_class_at_each_place count j lt = get_or-replicate {A = ℕ} count j 0 0 lt
 
 -- class 0 has each region, the others have none
-pub opened_table_has_lowest_regions : (count : ℕ) → AreLowest (replicate count 0) (set (replicate 256 count) 0 0)
-opened_table_has_lowest_regions count k lt =
-    elim (cases_eq k 0) [
-      | inl same ↦ rw (same, get_or-set_same (replicate 256 count) 0 0 0 (omega arith)) (record {
-        low = omega arith;
-        high = omega arith;
-        before = λ j _ l e. absurd (omega (arith, l));
-        there = λ l. zero_class_at_each_place count 0 (omega (arith, l, length_of_zero_classes count));
-      })
-      | inr other ↦ rw (get_or-set_other (replicate 256 count) 0 k 0 0 other, get_or-replicate 256 k count 0 lt) (record {
-        low = omega arith;
-        high = omega (arith, length_of_zero_classes count);
-        before = λ j _ l e. other (sym e ∙ zero_class_at_each_place count j l);
-        there = λ l. absurd (omega (arith, l, length_of_zero_classes count));
-      })
-    ]
+pub opened_table_has_lowest_regions : (count : ℕ) → AreLowest (replicate count 0) (replicate 256 count)
+opened_table_has_lowest_regions count k some lt =
+    rw (get_or-replicate 256 k count 0 lt) (record {
+      low = omega arith;
+      high = omega (arith, length_of_zero_classes count);
+      before = λ j _ l e. absurd (omega (arith, some, sym e ∙ zero_class_at_each_place count j l));
+      there = λ l. absurd (omega (arith, l, length_of_zero_classes count));
+    })
 
 pub class_table_stays_short : (t : List ℕ) (region class : ℕ) → length t ≤ region_limit → length (set t region class) ≤ region_limit
 class_table_stays_short t region class few = omega (arith, few, length-set t region class)

@@ -1,11 +1,14 @@
 -- What a change of headers leaves of their counts.
-use Rattle.std.proofs.Common.{◌≡◌, ℕ, zero, suc, ◌+◌, ◌<◌, ◌≤◌, Bool, true, false, not, cond, List, [], ◌∷◌, length, map, Option, Some, None, is_some, option_map, get_or, set, refl, sym, ap, ap₂, ◌∙◌, arith, replicate, length-set}
+use Rattle.std.proofs.Common.{◌≡◌, ℕ, zero, suc, ◌+◌, ◌<◌, ◌≤◌, Bool, true, false, not, cond, List, [], ◌∷◌, length, map, Option, Some, None, is_some, IsSome, IfSome, option_map, get_or, set, refl, sym, ap, ap₂, ◌∙◌, arith, replicate, length-set}
 use Rattle.std.specs.Prelude.{count_by}
 use Rattle.std.proofs.lemmas.List.{length-map, length-replicate}
 use Rattle.std.proofs.lemmas.List.Sums.{sum_by-cons, sum_by-set, count_by-le-length}
-use Rattle.heap_region.specs.Layout.{header_live}
-use Rattle.heap_region.specs.TurnedHeaders.{turned_header, turned_back_header, header_unmarked, header_dead, one_if, IsCounted}
+use Rattle.heap_region.specs.Layout.{header_bit, header_live, with_bit}
+use Rattle.heap_region.specs.TurnedHeaders.{turned_header, turned_back_header, header_unmarked, header_dead, live_counted, mark_counted, one_if, IsCounted}
+use Rattle.heap_region.specs.declared.cell.Bit.{Bit}
+use Rattle.heap_region.specs.declared.cell.Bit.TheVariants.{Live, Mark}
 use Rattle.heap_region.specs.declared.cell.Header.{Header}
+use Rattle.heap_region.proofs.Cells.{cell_with_header_is_listed}
 use Rattle.heap_region.specs.declared.counts.Counts.{Counts}
 
 -- ---- a header is written
@@ -17,11 +20,11 @@ header_count_after_set q hs cell x lt = sum_by-set (λ x. cond (q x) 1 0) hs cel
 counted_header_is_at_least_one : (q : Option Header → Bool) (hs : List (Option Header)) (cell : ℕ) → cell < length hs → q None ≡ false → one_if (q (get_or hs cell None)) ≤ count_by q hs
 counted_header_is_at_least_one q hs cell lt none = omega (arith, header_count_after_set q hs cell None lt, ap one_if none)
 
--- each count is at most 256
+-- each count is at most 2^24
 pub record AreFew (c : Counts) : Type 0 where
-  pub objects : c.objects ≤ 256
-  pub unmarked : c.unmarked ≤ 256
-  pub dead : c.dead ≤ 256
+  pub objects : c.objects ≤ 16777216
+  pub unmarked : c.unmarked ≤ 16777216
+  pub dead : c.dead ≤ 16777216
 
 pub counts_of_headers_are_few : (hs : List (Option Header)) (c : Counts) → IsCounted hs c → AreFew c
 counts_of_headers_are_few hs c is = record {
@@ -58,6 +61,31 @@ counts_after_header_set hs c d cell was x lt is counted differ =
       dead = omega (arith, header_count_after_set header_dead hs cell x lt, counted.dead, differ.dead);
       few = omega (arith, counted.few, length-set hs cell x);
     }
+
+-- ---- a bit is written
+
+-- the bit that a header has is counted
+pub bit_is_counted : (hs : List (Option Header)) (c : Counts) (cell : ℕ) (bit : Bit) (was : Bool) → IsSome (get_or hs cell None) → IsCounted hs c → IfSome (get_or hs cell None) (λ h. was ≡ header_bit bit h) → (mark_counted bit was ≤ c.unmarked) × (live_counted bit was ≤ c.dead)
+bit_is_counted hs c cell bit was some counted told = go bit (get_or hs cell None) some (counts_include_this_header hs c cell (get_or hs cell None) (cell_with_header_is_listed hs cell some) refl counted) told
+  where
+    go : (bit : Bit) (x : Option Header) → IsSome x → AreMore c x → IfSome x (λ h. was ≡ header_bit bit h) → (mark_counted bit was ≤ c.unmarked) × (live_counted bit was ≤ c.dead)
+    go bit None some more h = absurd (cc)
+    go Live (Some o) some more h = (omega arith, omega (arith, more.dead, ap (λ b. one_if (not b)) h))
+    go Mark (Some o) some more h = (omega (arith, more.unmarked, ap (λ b. one_if (not b)) h), omega arith)
+
+-- the counts after a bit was written
+pub bit_differs : (x : Option Header) (bit : Bit) (was on : Bool) (c d : Counts) → IsSome x → IfSome x (λ h. was ≡ header_bit bit h) → d.objects ≡ c.objects → d.unmarked + mark_counted bit was ≡ c.unmarked + mark_counted bit on → d.dead + live_counted bit was ≡ c.dead + live_counted bit on → Differ c d x (option_map (with_bit bit on) x)
+bit_differs None bit was on c d some h objects unmarked dead = absurd (cc)
+bit_differs (Some o) Live was on c d some h objects unmarked dead = record {
+  objects = omega (arith, objects);
+  unmarked = omega (arith, unmarked);
+  dead = omega (arith, dead, ap (λ b. one_if (not b)) h);
+}
+bit_differs (Some o) Mark was on c d some h objects unmarked dead = record {
+  objects = omega (arith, objects);
+  unmarked = omega (arith, unmarked, ap (λ b. one_if (not b)) h);
+  dead = omega (arith, dead);
+}
 
 -- ---- a turn
 

@@ -3,12 +3,12 @@ use Rattle.std.proofs.Common.{◌≡◌, ◌≢◌, ℕ, zero, suc, [], ◌∷�
 use Rattle.std.specs.Prelude.{slice_get}
 use Rattle.std.proofs.lemmas.List.{length-map, get_or-map, set-get_or}
 use Rattle.heap_class.specs.declared.ObjRef.{ObjRef}
-use Rattle.heap_region.specs.Regions.{Object, UsedRegion, FitsWords, used_at, object_at, slot_object, with_object, with_region}
+use Rattle.heap_region.specs.Regions.{Object, UsedRegion, FitsWords, used_at, object_at, slot_object, with_object}
 use Rattle.heap_region.specs.Changes.{with_pending}
 use Rattle.heap_region.specs.Pool.{RegionPool, taken, freed, cell_freed}
 use Rattle.heap_region.specs.Layout.{IsWholeRegion, changed_at, cell_filled, pending_set}
 use Rattle.heap_region.specs.Table.{shown_region, first_in, free_class_of, IsRegionTable, IsGood}
-use Rattle.heap_region.proofs.ShownRegions.{object_shown, pending_shown, seen, shown_regions_with_changed_object, shown_regions_with_one_changed, shown_regions_with_taken_cell, slot_of_object_is_used, freed_shown, used_region_is_slot, with_regions}
+use Rattle.heap_region.proofs.ShownRegions.{object_shown, pending_shown, seen, shown_regions_with_changed_object, shown_regions_with_taken_cell, slot_of_object_is_used, freed_shown, used_region_is_slot, with_regions}
 use Rattle.heap_region.proofs.Tables.{table_changed, table_with_region_of_same_room, in_use_within, size_in, slot_with_property_is_used, take_ready, good_region_with_taken_cell, good_region_with_freed_cell, good_region_with_changed_object, mapped_some, room_kept, pending_kept, class_kept_by_room, class_without_room, headed_region_has_room, freed_region_has_room}
 
 -- a change that keeps the size of cells
@@ -69,24 +69,6 @@ module _ (slots : List (Option UsedRegion)) (free_classes pool : List ℕ) (capa
         rw now (table_with_region_of_same_room slots free_classes pool capacity start r _ table used kept.0 kept.1 (size_kept (pending_set pending) (λ u. refl) old) kept.2),
         rw (← view, now) (ap (with_regions pool start) (sym (pending_shown slots r pending))),
       )
-
-  -- a region in use is changed, but neither its free list nor which of its cells have an object
-  pub region_changed : (r : ℕ) (f : UsedRegion → UsedRegion) → ((u : UsedRegion) → (f u).cell_size ≡ u.cell_size) → ((x : Option UsedRegion) → IsSome x → IsGood x → IsSome (option_map f x) × IsGood (option_map f x) × (free_class_of (option_map f x) ≡ free_class_of x)) → IsSome (used_at s.regions r) → (found new : Option UsedRegion) → found ≡ get_or slots r found → new ≡ option_map f found → IsRegionTable (set slots r new) free_classes pool capacity start × (seen (set slots r new) pool start ≡ record s { regions = with_region r f s.regions })
-  region_changed r f sizes keeps some found new read is =
-      let old : Option UsedRegion = get_or slots r None in
-      let slot : (used_at (map shown_region slots) r ≡ old) × (r < length slots) = slot_used slots r (rw (← view) at some) in
-      let used : IsSome old = rw (← view, slot.0) at some in
-      let now : new ≡ option_map f old = changed_slot slots r f found new slot.1 read is in
-      let kept = keeps old used (table.good r) in (
-        rw now (table_with_region_of_same_room slots free_classes pool capacity start r _ table used kept.0 kept.1 (size_kept f sizes old) kept.2),
-        rw (← view, now) (ap (with_regions pool start) (sym (shown_regions_with_one_changed slots r f))),
-      )
-
-  -- what a call found of a region in use
-  pub region_found : {A : Type 0} (g : Option UsedRegion → A) (r : ℕ) → IsSome (used_at s.regions r) → (found : Option UsedRegion) → found ≡ get_or slots r found → g found ≡ g (used_at s.regions r)
-  region_found g r some found read =
-      let slot = slot_used slots r (rw (← view) at some) in
-      rw (← view) (ap g (read ∙ place_read_with_any_default slots r found slot.1 ∙ sym slot.0))
 
   -- the table once a region changed in its place, with its class told anew
   retold : (r : ℕ) (f : UsedRegion → UsedRegion) → ((u : UsedRegion) → (f u).cell_size ≡ u.cell_size) → IsSome (get_or slots r None) → (new : Option UsedRegion) → new ≡ option_map f (get_or slots r None) → IsGood (option_map f (get_or slots r None)) → IsRegionTable (set slots r new) (set free_classes r (free_class_of new)) pool capacity start

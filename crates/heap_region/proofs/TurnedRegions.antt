@@ -1,19 +1,21 @@
 -- What a turn of all headers of a region leaves of what they show.
 use Rattle.std.proofs.Common.{◌≡◌, ℕ, zero, suc, ◌+◌, Bool, true, false, not, cond, List, [], ◌∷◌, length, map, Option, Some, None, is_none, option_map, drop, get_or, refl, sym, ap, ap₂, ◌∙◌}
-use Rattle.std.specs.Prelude.{count_by}
+use Rattle.std.specs.Prelude.{count_by, is_some}
 use Rattle.std.proofs.lemmas.List.{length-map}
 use Rattle.std.proofs.lemmas.List.Sums.{sum_by-cons}
 use Rattle.heap_region.specs.Regions.{Object}
 use Rattle.heap_region.specs.Layout.{cells_from, walk, header_object, header_live, CellHeaderFits, IsSound}
 use Rattle.heap_region.specs.Live.{is_dead, is_live}
 use Rattle.heap_region.specs.Turns.{turned_region, turned_back_region, turned_object, turned_back_object, is_unmarked}
-use Rattle.heap_region.specs.TurnedHeaders.{turned_header, turned_back_header, header_dead, header_unmarked}
+use Rattle.heap_region.specs.TurnedHeaders.{IsCounted, turned_header, turned_back_header, header_dead, header_unmarked}
+use Rattle.heap_region.specs.Slots.{AreCounted}
+use Rattle.heap_region.specs.declared.counts.Counts.{Counts}
 use Rattle.heap_region.specs.declared.cell.Header.{Header}
 use Rattle.heap_region.proofs.Sound.{shown}
 
 -- ---- headers that are all changed, but not in their lengths
 
-abbrev KeepsLen : (Header → Header) → Type 0
+abbrev pub KeepsLen : (Header → Header) → Type 0
 KeepsLen f = (h : Header) → (f h).len ≡ h.len
 
 vacant_after_header_map : (f : Header → Header) (hs : List (Option Header)) → map is_none (map (option_map f) hs) ≡ map is_none hs
@@ -21,7 +23,7 @@ vacant_after_header_map f [] = refl
 vacant_after_header_map f (None ∷ hs) = ap (λ bs. true ∷ bs) (vacant_after_header_map f hs)
 vacant_after_header_map f (Some h ∷ hs) = ap (λ bs. false ∷ bs) (vacant_after_header_map f hs)
 
-header_map_keeps_fit : (f : Header → Header) → KeepsLen f → (size : ℕ) (hs : List (Option Header)) (cell : ℕ) → CellHeaderFits size (get_or hs cell None) → CellHeaderFits size (get_or (map (option_map f) hs) cell None)
+pub header_map_keeps_fit : (f : Header → Header) → KeepsLen f → (size : ℕ) (hs : List (Option Header)) (cell : ℕ) → CellHeaderFits size (get_or hs cell None) → CellHeaderFits size (get_or (map (option_map f) hs) cell None)
 header_map_keeps_fit f len size [] cell fits = fits
 header_map_keeps_fit f len size (None ∷ hs) zero fits = fits
 header_map_keeps_fit f len size (Some h ∷ hs) zero fits = rw (len h) fits
@@ -107,3 +109,18 @@ dead_shown = headers_counted_as_objects header_dead is_dead go
     go : (ws : List ℕ) (h : Option Header) → header_dead h ≡ is_dead (header_object ws h)
     go ws None = refl
     go ws (Some h) = refl
+
+taken_headers_counted_as_objects : (size : ℕ) (ws : List ℕ) (base : ℕ) (hs : List (Option Header)) → count_by is_some hs ≡ count_by is_some (cells_from size ws base hs)
+taken_headers_counted_as_objects = headers_counted_as_objects is_some is_some go
+  where
+    go : (ws : List ℕ) (h : Option Header) → is_some h ≡ is_some (header_object ws h)
+    go ws None = refl
+    go ws (Some h) = refl
+
+-- the counts of headers are those of the objects that they show
+pub counts_of_headers_shown : (size : ℕ) (ws : List ℕ) (hs : List (Option Header)) (c : Counts) → IsCounted hs c → AreCounted (cells_from size ws 0 hs) c
+counts_of_headers_shown size ws hs c is = record {
+  objects = is.objects ∙ taken_headers_counted_as_objects size ws 0 hs;
+  unmarked = is.unmarked ∙ unmarked_shown size ws 0 hs;
+  dead = is.dead ∙ dead_shown size ws 0 hs;
+}

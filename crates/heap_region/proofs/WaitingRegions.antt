@@ -25,7 +25,7 @@ waiting_classes_of_same_class slots waits r s e lt same =
 
 same_class : (f : UsedRegion → UsedRegion) → ((u : UsedRegion) → (f u).pending ≡ u.pending) → (s : Option UsedRegion) → wait_class_of (option_map f s) ≡ wait_class_of s
 same_class f keeps None = refl
-same_class f keeps (Some u) = ap (λ b. if b then 1 else 0) (keeps u)
+same_class f keeps (Some u) = ap (λ b. if b then 1 else 2) (keeps u)
 
 -- a region in use is changed, but not whether it waits
 pub waiting_classes_of_changed_region : (slots : List (Option UsedRegion)) (waits : List ℕ) (r : ℕ) (f : UsedRegion → UsedRegion) → ((u : UsedRegion) → (f u).pending ≡ u.pending) → AreWaiting slots waits → IsSome (get_or slots r None) → (found new : Option UsedRegion) → found ≡ get_or slots r found → new ≡ option_map f found → AreWaiting (set slots r new) waits
@@ -42,7 +42,7 @@ region_does_not_wait : (n : ℕ) (s : Option UsedRegion) → (eqb (wait_class_of
 region_does_not_wait n None lacks = refl
 region_does_not_wait n (Some u) lacks = go u.pending lacks
   where
-    go : (b : Bool) → (eqb (if b then 1 else 0) 1 ≡ true → ⊥) → (if b then Some n else None) ≡ None
+    go : (b : Bool) → (eqb (if b then 1 else 2) 1 ≡ true → ⊥) → (if b then Some n else None) ≡ None
     go true lacks = absurd (lacks refl)
     go false lacks = refl
 
@@ -50,7 +50,7 @@ region_waits : (n : ℕ) (s : Option UsedRegion) → eqb (wait_class_of s) 1 ≡
 region_waits n None h = cc
 region_waits n (Some u) h = go u.pending h
   where
-    go : (b : Bool) → eqb (if b then 1 else 0) 1 ≡ true → (if b then Some n else None) ≡ Some n
+    go : (b : Bool) → eqb (if b then 1 else 2) 1 ≡ true → (if b then Some n else None) ≡ Some n
     go true h = refl
     go false h = cc
 

@@ -1,6 +1,8 @@
 -- For proofs: the headers that kept ones show.
 use Rattle.std.specs.Prelude.{◌≡◌, ◌≤◌, ℕ, length, Bool, true, false, not, List, map, Option, Some, None, is_some, option_map, count_by, if◌then◌else◌}
 use Rattle.heap_region.specs.Limits.{cell_limit}
+use Rattle.heap_region.specs.declared.cell.Bit.{Bit}
+use Rattle.heap_region.specs.declared.cell.Bit.TheVariants.{Live, Mark}
 use Rattle.heap_region.specs.declared.cell.Header.{Header}
 use Rattle.heap_region.specs.declared.counts.Counts.{Counts}
 use Rattle.heap_region.specs.declared.turn.Turn.{Turn}
@@ -43,6 +45,16 @@ header_dead (Some h) = not h.live
 -- 1 or 0
 abbrev pub one_if : Bool → ℕ
 one_if b = if b then 1 else 0
+
+-- 1 if an object is counted as unmarked by this value of this bit
+abbrev pub mark_counted : Bit → Bool → ℕ
+mark_counted Live b = 0
+mark_counted Mark b = one_if (not b)
+
+-- 1 if an object is counted as not live by this value of this bit
+abbrev pub live_counted : Bit → Bool → ℕ
+live_counted Live b = one_if (not b)
+live_counted Mark b = 0
 
 -- these are the numbers of the objects with these headers, of those that aren't marked, and of those that aren't live; there
 -- are at most 256 cells

@@ -1,6 +1,6 @@
 //! The words and the headers of a region in use, or of the regions that a large object takes.
-ghost use Rattle.std.specs.Prelude.{◌≡◌, ◌+◌, ◌*◌, ℕ, ◌<◌, ◌≤◌, [], length, IfOk, IsSome, slice_index, slice_index_or, slice_set, map, option_map, replicate, Some, None};
-ghost use Rattle.heap_region.specs.Layout.{IsBlockSize, next_link, overwritten, with_bit};
+ghost use Rattle.std.specs.Prelude.{◌≡◌, ◌+◌, ◌*◌, ℕ, ◌<◌, ◌≤◌, [], length, IfOk, IfSome, IsSome, slice_index, slice_index_or, slice_set, map, option_map, replicate, Some, None};
+ghost use Rattle.heap_region.specs.Layout.{IsBlockSize, header_bit, next_link, overwritten, with_bit};
 ghost use Rattle.heap_region.specs.Limits.{cell_limit, heap_words};
 ghost use Rattle.heap_region.specs.Regions.{block_words};
 ghost use Rattle.heap_region.specs.TurnedHeaders.{turned_header, turned_back_header};
@@ -380,11 +380,13 @@ impl Block {
         }
     }
 
-    // Writes a bit of the object in a cell, which must have one.
+    // Writes a bit of the object in a cell, which must have one. Returns the bit that it had.
     #[inline(always)]
-    pub(crate) fn set_bit(&mut self, cell: usize, bit: Bit, on: bool)
+    pub(crate) fn set_bit(&mut self, cell: usize, bit: Bit, on: bool) -> bool
         requires { IsSome (slice_index_or self.old.headers cell None) }
-        ensures { self.new
+        ensures was { IfSome (slice_index_or self.old.headers cell None)
+            (λ h. result ≡ header_bit bit h) }
+        ensures state { self.new
             ≡ record self.old {
               headers = slice_set self.old.headers cell
                   (option_map (with_bit bit on) (slice_index_or self.old.headers cell None));
@@ -396,11 +398,13 @@ impl Block {
         }
     }
 
-    // Makes a cell free.
-    pub(crate) fn free(&mut self, cell: usize)
-        requires { cell < length self.old.headers }
-        ensures { self.new
+    // Makes a cell free, which must have an object. Returns the header that it had.
+    #[inline(always)]
+    pub(crate) fn free(&mut self, cell: usize) -> Header
+        requires { IsSome (slice_index_or self.old.headers cell None) }
+        ensures state { self.new
             ≡ record self.old { headers = slice_set self.old.headers cell None } }
+        ensures was { slice_index_or self.old.headers cell None ≡ Some result }
     {
         match &mut self.parts {
             Parts::Region(block) => block.headers.free(cell),

@@ -1,21 +1,21 @@
-//! How many objects a region has, and of how many a bit isn't set.
+//! How many objects a region or a heap has, and of how many a bit isn't set.
 ghost use Rattle.std.specs.Prelude.{◌≡◌, ◌+◌, ◌≤◌, Some, is_some};
-ghost use Rattle.heap_region.specs.Limits.{cell_limit};
-ghost use Rattle.heap_region.specs.TurnedHeaders.{header_dead, header_unmarked, one_if};
+ghost use Rattle.heap_region.specs.Limits.{object_limit};
+ghost use Rattle.heap_region.specs.TurnedHeaders.{header_dead, header_unmarked, live_counted, mark_counted, one_if};
 
-use crate::cell::Header;
+use crate::cell::{Bit, Header};
 
-// The numbers of a region's objects, of those that aren't marked, and of those that aren't live.
+// The numbers of the objects of a region or of a heap, of those that aren't marked, and of those that aren't live.
 #[derive(Clone, Copy)]
 pub(crate) struct Counts {
-    pub(crate) objects: u16,
-    pub(crate) unmarked: u16,
-    pub(crate) dead: u16,
+    pub(crate) objects: u32,
+    pub(crate) unmarked: u32,
+    pub(crate) dead: u32,
 }
 
 // Returns 1 or 0.
 #[inline(always)]
-fn one_if(is_so: bool) -> u16
+fn one_if(is_so: bool) -> u32
     ensures value { result ≡ one_if is_so }
     ensures limit { result ≤ 1 }
 {
@@ -39,9 +39,9 @@ impl Counts {
     // Returns the counts with one more object.
     #[inline(always)]
     pub(crate) fn with(self, header: Header) -> Counts
-        requires objects { self.objects ≤ cell_limit }
-        requires unmarked { self.unmarked ≤ cell_limit }
-        requires dead { self.dead ≤ cell_limit }
+        requires objects { self.objects ≤ object_limit }
+        requires unmarked { self.unmarked ≤ object_limit }
+        requires dead { self.dead ≤ object_limit }
         ensures objects { result.objects ≡ self.objects + 1 }
         ensures unmarked { result.unmarked
             ≡ self.unmarked + one_if (header_unmarked (Some header)) }
@@ -71,6 +71,62 @@ impl Counts {
                 dead: self.dead - one_if(!header.live),
             },
             None => self,
+        }
+    }
+
+    // Returns the counts after a bit of an object was written, which was `was`.
+    #[inline(always)]
+    pub(crate) fn with_bit(self, bit: Bit, was: bool, on: bool) -> Counts
+        requires unmarked { self.unmarked ≤ object_limit }
+        requires dead { self.dead ≤ object_limit }
+        requires marks { mark_counted bit was ≤ self.unmarked }
+        requires lives { live_counted bit was ≤ self.dead }
+        ensures objects { result.objects ≡ self.objects }
+        ensures unmarked { result.unmarked + mark_counted bit was
+            ≡ self.unmarked + mark_counted bit on }
+        ensures dead { result.dead + live_counted bit was ≡ self.dead + live_counted bit on }
+    {
+        match bit {
+            Bit::Live => Counts {
+                dead: self.dead + one_if(!on) - one_if(!was),
+                ..self
+            },
+            Bit::Mark => Counts {
+                unmarked: self.unmarked + one_if(!on) - one_if(!was),
+                ..self
+            },
+        }
+    }
+
+    // Returns these counts and others.
+    pub(crate) fn plus(self, other: Counts) -> Counts
+        requires objects { self.objects + other.objects ≤ object_limit }
+        requires unmarked { self.unmarked + other.unmarked ≤ object_limit }
+        requires dead { self.dead + other.dead ≤ object_limit }
+        ensures objects { result.objects ≡ self.objects + other.objects }
+        ensures unmarked { result.unmarked ≡ self.unmarked + other.unmarked }
+        ensures dead { result.dead ≡ self.dead + other.dead }
+    {
+        Counts {
+            objects: self.objects + other.objects,
+            unmarked: self.unmarked + other.unmarked,
+            dead: self.dead + other.dead,
+        }
+    }
+
+    // Returns these counts less others.
+    pub(crate) fn less(self, other: Counts) -> Counts
+        requires objects { other.objects ≤ self.objects }
+        requires unmarked { other.unmarked ≤ self.unmarked }
+        requires dead { other.dead ≤ self.dead }
+        ensures objects { result.objects + other.objects ≡ self.objects }
+        ensures unmarked { result.unmarked + other.unmarked ≡ self.unmarked }
+        ensures dead { result.dead + other.dead ≡ self.dead }
+    {
+        Counts {
+            objects: self.objects - other.objects,
+            unmarked: self.unmarked - other.unmarked,
+            dead: self.dead - other.dead,
         }
     }
 

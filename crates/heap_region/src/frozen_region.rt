@@ -1,10 +1,12 @@
 //! A copy of a region, to be read after the region was overwritten.
 ghost use Rattle.std.specs.Prelude.{◌≡◌, ◌*◌, ◌+◌, ◌<◌, ◌≤◌, length, IfOk, IsSome, IfSome, Some};
-ghost use Rattle.heap_region.specs.Regions.{FitsWords};
+ghost use Rattle.heap_region.specs.Regions.{FitsWords, UsedRegion};
+ghost use Rattle.heap_region.specs.Turns.{turned_back_region, turned_by, turned_region};
 ghost use Rattle.heap_region.specs.RegionCopies.{frozen, frozen_object, frozen_with, frozen_word_set, frozen_words};
 ghost use Rattle.heap_region.specs.Limits.{heap_words};
 
 use crate::block::Block;
+use crate::quarter::Quarter;
 use crate::storage::{ObjectCopy, Storage, header_at, part, put_object};
 use heap_class::ObjKind;
 use std::alloc::{AllocError, Global};
@@ -35,8 +37,8 @@ impl Model for FrozenRegion {
 }
 
 impl Storage {
-    /// Returns a copy of the region. Fails if the allocation fails.
-    pub fn freeze(&self, alloc: Global) -> Result<FrozenRegion, AllocError>
+    // Returns a copy of the region. Fails if the allocation fails.
+    pub(crate) fn freeze(&self, alloc: Global) -> Result<FrozenRegion, AllocError>
         ensures { IfOk result (λ f. f ≡ frozen self.now) }
     {
         Ok(FrozenRegion {
@@ -47,6 +49,37 @@ impl Storage {
 }
 
 impl FrozenRegion {
+    // Turns the bits of all objects.
+    fn turn(&mut self)
+        ensures { (u : UsedRegion) → self.old ≡ frozen u → self.new ≡ frozen (turned_region u) }
+    {
+        self.block.turn();
+    }
+
+    // Undoes `turn`.
+    fn turn_back(&mut self)
+        ensures { (u : UsedRegion) → self.old ≡ frozen u
+            → self.new ≡ frozen (turned_back_region u) }
+    {
+        self.block.turn_back();
+    }
+
+    // Turns the bits of all objects so many times, modulo 4.
+    #[tactic(auto, unfolding(crate::specs::Turns::turned_by))]
+    pub(crate) fn turn_by(&mut self, turns: Quarter)
+        ensures { (u : UsedRegion) → self.old ≡ frozen u → self.new ≡ frozen (turned_by turns u) }
+    {
+        match turns {
+            Quarter::Zero => {}
+            Quarter::One => self.turn(),
+            Quarter::Two => {
+                self.turn();
+                self.turn();
+            }
+            Quarter::Three => self.turn_back(),
+        }
+    }
+
     /// Returns the size of each cell in words.
     pub fn cell_size(&self) -> u64
         ensures value { result ≡ self.now.cell_size }

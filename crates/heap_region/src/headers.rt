@@ -1,8 +1,8 @@
 //! The headers of a region's cells, whose bits are read by turns.
-ghost use Rattle.std.specs.Prelude.{◌≡◌, ◌<◌, ◌≤◌, [], length, map, Some, None, IsSome, option_map, count_by, replicate, slice_index_or, slice_set};
-ghost use Rattle.heap_region.specs.Layout.{with_bit, header_live};
+ghost use Rattle.std.specs.Prelude.{◌≡◌, ◌<◌, ◌≤◌, [], length, map, Some, None, IfSome, IsSome, option_map, replicate, slice_index_or, slice_set};
+ghost use Rattle.heap_region.specs.Layout.{header_bit, with_bit};
 ghost use Rattle.heap_region.specs.Limits.{cell_limit, heap_words};
-ghost use Rattle.heap_region.specs.TurnedHeaders.{header_dead, header_unmarked, turned_header, turned_back_header};
+ghost use Rattle.heap_region.specs.TurnedHeaders.{IsCounted, turned_header, turned_back_header};
 
 use crate::cell::{Bit, Cell, Header};
 use crate::counts::Counts;
@@ -30,16 +30,28 @@ impl Model for Headers {
     ghost invariant = { λ h. IsCounted (shown_headers h.turn h.kept.items) h.counts };
 }
 
-// Returns the header in a cell after a bit was written. There must be one.
+// Returns the header in a cell. There must be one.
 #[inline(always)]
-fn header_with(header: Option<Header>, bit: Bit, on: bool) -> Header
+fn header_in(header: Option<Header>) -> Header
     requires { IsSome header }
-    ensures { option_map (with_bit bit on) header ≡ Some result }
+    ensures { header ≡ Some result }
+{
+    match header {
+        Some(header) => header,
+        None => unreachable!(),
+    }
+}
+
+// Returns a bit of the header in a cell. There must be one.
+#[inline(always)]
+fn bit_in(header: Option<Header>, bit: Bit) -> bool
+    requires { IsSome header }
+    ensures { IfSome header (λ h. result ≡ header_bit bit h) }
 {
     match header {
         Some(header) => match bit {
-            Bit::Live => Header { live: on, ..header },
-            Bit::Mark => Header { mark: on, ..header },
+            Bit::Live => header.live,
+            Bit::Mark => header.mark,
         },
         None => unreachable!(),
     }
@@ -152,28 +164,12 @@ impl Headers {
         }
     }
 
-    // Returns the number of objects that aren't marked.
-    pub(crate) fn unmarked(&self) -> u64
-        ensures value { result ≡ count_by header_unmarked self.now }
-        ensures limit { result ≤ cell_limit }
+    // Returns how many objects there are, and of how many a bit isn't set.
+    #[inline(always)]
+    pub(crate) fn counts(&self) -> Counts
+        ensures { IsCounted self.now result }
     {
-        self.counts.unmarked as u64
-    }
-
-    // Returns the number of objects that aren't live.
-    pub(crate) fn dead(&self) -> u64
-        ensures value { result ≡ count_by header_dead self.now }
-        ensures limit { result ≤ cell_limit }
-    {
-        self.counts.dead as u64
-    }
-
-    // Returns the number of objects that are live.
-    pub(crate) fn live(&self) -> u64
-        ensures value { result ≡ count_by header_live self.now }
-        ensures limit { result ≤ cell_limit }
-    {
-        (self.counts.objects - self.counts.dead) as u64
+        self.counts
     }
 
     // Writes the header of the object in a free cell.
@@ -199,28 +195,33 @@ impl Headers {
         set_header(&mut self.kept, cell, self.turn.kept(header));
     }
 
-    // Writes a bit of the object in a cell, which must have one.
+    // Writes a bit of the object in a cell, which must have one. Returns the bit that it had.
     #[inline(always)]
-    pub(crate) fn set_bit(&mut self, cell: usize, bit: Bit, on: bool)
+    pub(crate) fn set_bit(&mut self, cell: usize, bit: Bit, on: bool) -> bool
         requires { IsSome (slice_index_or self.old cell None) }
-        ensures { self.new
+        ensures state { self.new
             ≡ slice_set self.old cell
             (option_map (with_bit bit on) (slice_index_or self.old cell None)) }
+        ensures was { IfSome (slice_index_or self.old cell None) (λ h. result ≡ header_bit bit h) }
     {
-        let was = self.at(cell);
-        self.counts = self.counts.without(was).with(header_with(was, bit, on));
+        let was = bit_in(self.at(cell), bit);
+        self.counts = self.counts.with_bit(bit, was, on);
         let (kept_bit, kept_on) = self.turn.kept_bit(bit, on);
         set_bit_at(&mut self.kept, cell, kept_bit, kept_on);
+        was
     }
 
-    // Makes a cell free.
-    pub(crate) fn free(&mut self, cell: usize)
-        requires { cell < length self.old }
-        ensures { self.new ≡ slice_set self.old cell None }
+    // Makes a cell free, which must have an object. Returns the header that it had.
+    #[inline(always)]
+    pub(crate) fn free(&mut self, cell: usize) -> Header
+        requires { IsSome (slice_index_or self.old cell None) }
+        ensures state { self.new ≡ slice_set self.old cell None }
+        ensures was { slice_index_or self.old cell None ≡ Some result }
     {
-        let was = self.at(cell);
-        self.counts = self.counts.without(was);
+        let was = header_in(self.at(cell));
+        self.counts = self.counts.without(Some(was));
         set_free(&mut self.kept, cell);
+        was
     }
 
     // Makes each object live if it was marked, and marked if it wasn't live.

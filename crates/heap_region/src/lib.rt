@@ -1,7 +1,7 @@
 //! Regions of equal size, the objects in their cells, free lists and the pool.
 #![tactic(auto)]
 
-ghost use Rattle.std.specs.Prelude.{◌≡◌, ◌≢◌, ◌+◌, ◌<◌, ◌≤◌, ℕ, length, Some, None, true, false, IsSome, IfSome, IfOk, IfErr, OnErr, is_some, option_map, slice_get, slice_index, reverse, MatchOption, IsSomeAnd, count_by};
+ghost use Rattle.std.specs.Prelude.{◌≡◌, ◌≢◌, ◌+◌, ◌<◌, ◌≤◌, ℕ, length, Some, None, true, false, IsSome, IfSome, IfOk, IfErr, OnErr, is_some, option_map, slice_get, slice_index, map, reverse, MatchOption, IsSomeAnd, count_by};
 ghost use Rattle.std.specs.List.{enumerate_from, filter_map};
 ghost use Rattle.std.specs.Option.{option_map_or};
 ghost use Rattle.heap_class.specs.Refusals.{IsAnswered};
@@ -10,13 +10,13 @@ ghost use Rattle.heap_class.specs.declared.Refusal.TheVariants.{NoMemory};
 ghost use Rattle.heap_class.specs.Limits.{large_array_limit};
 ghost use Rattle.heap_region.specs.Limits.{region_limit, region_words, cell_limit, heap_words};
 ghost use Rattle.heap_region.specs.RegionCopies.{region_frozen};
-ghost use Rattle.heap_region.specs.Regions.{FitsWords, Object, UsedRegion, object_at, object_of, used_at, id_of, ref_of, with_object, with_region, with_word};
+ghost use Rattle.heap_region.specs.Regions.{FitsWords, Object, UsedRegion, in_used, object_at, object_of, used_at, id_of, ref_of, with_object, with_word};
 ghost use Rattle.heap_region.specs.Pool.{RegionPool, opening_pool, alloc_refusal, is_fresh, free_place, pending_place, first_run, new_place, taken, freed, released, restored, allocated, unallocated, blank_object};
 ghost use Rattle.heap_region.specs.Legal.{IsCellTable, IsRegionPool, MayRestore};
 ghost use Rattle.heap_region.specs.Layout.{IsCellSize, bit_set};
 ghost use Rattle.heap_region.specs.Changes.{WritesLive, WritesMark, WritesPending};
 ghost use Rattle.heap_region.specs.Live.{cells_of, is_dead, is_live};
-ghost use Rattle.heap_region.specs.Turns.{turned_region, turned_back_region, unmarked_in};
+ghost use Rattle.heap_region.specs.Turns.{turned_region, turned_back_region, unmarked_total};
 
 mod block;
 mod cell;
@@ -25,27 +25,31 @@ mod frozen_region;
 mod headers;
 mod lists;
 mod live_walk;
+mod quarter;
 mod region_classes;
+mod region_view;
 mod sizes;
 mod slots;
 mod storage;
 mod turn;
+mod turned_slots;
+mod waits;
 
-use cell::Bit;
+use cell::{Bit, Header};
+use counts::Counts;
 pub use frozen_region::FrozenRegion;
 use heap_class::{ObjKind, ObjRef, Refusal};
 pub use lists::{FreeCells, PoolRegions};
 use region_classes::RegionClasses;
+pub use region_view::RegionView;
 pub use sizes::{OBJECT_BASE, REGION_WORDS};
 use sizes::{LARGE_LIMIT, cell_size_for, id_in, regions_for};
-use slots::{
-    WAITING, empty_slots, first_run_in, free_class, free_head_in, free_in, full_pool, give_head,
-    pool_head, set_bit_in, set_pending_in, set_word_in, size_class, slot_at, take_head, take_in,
-    turn_back_in, turn_in, unfree_in, wait_class,
-};
+use slots::{full_pool, give_head, pool_head, size_class, take_head};
 use std::alloc::{AllocError, Global};
 use std::marker::Model;
 pub use storage::{ObjectCopy, Storage};
+use turned_slots::Slots;
+use waits::Waits;
 
 /// A new object.
 #[derive(Clone, Copy)]
@@ -62,11 +66,13 @@ pub struct Placed {
 #[derive(Drop)]
 pub struct Regions {
     alloc: Global,
-    slots: Vec<Option<Storage>>,
+    slots: Slots,
     // For each region the number of its cell size if one of its cells is free, else 0.
     free_classes: RegionClasses,
-    // For each region 1 if it waits to be swept, else 0.
-    waits: RegionClasses,
+    // For each region whether it waits to be swept.
+    waits: Waits,
+    // How many objects there are, and of how many a bit isn't set.
+    totals: Counts,
     // The empty regions below the area, the head last. It has room for all regions below the area.
     pool: Vec<usize>,
     // The first region of the area.
@@ -79,18 +85,20 @@ impl Model for Regions {
     ghost Value = { RegionPool };
 
     ghost use Rattle.std.specs.Prelude.{map, reverse, vec_capacity};
+    ghost use Rattle.heap_region.specs.Slots.{AreTotals};
     ghost use Rattle.heap_region.specs.Table.{AreWaiting, IsRegionTable, shown_region};
 
     ghost view = { λ h.
         record {
-          regions = map shown_region h.slots.items;
+          regions = map shown_region h.slots;
           pool = reverse h.pool.items;
           area_start = h.area_start;
         } };
 
-    ghost invariant = { λ h. IsRegionTable h.slots.items h.free_classes (reverse h.pool.items)
+    ghost invariant = { λ h. IsRegionTable h.slots h.free_classes (reverse h.pool.items)
         (vec_capacity h.pool) h.area_start
-        × AreWaiting h.slots.items h.waits };
+        × AreWaiting h.slots h.waits
+        × AreTotals h.slots h.totals };
 }
 
 impl Regions {
@@ -249,12 +257,8 @@ impl Regions {
         ensures { self.new
             ≡ record self.old { regions = with_word at slot value self.old.regions } }
     {
-        set_word_in(
-            &mut self.slots[at.region as usize],
-            at.cell as usize,
-            slot as usize,
-            value,
-        );
+        self.slots
+            .set_word(at.region as usize, at.cell as usize, slot as usize, value);
     }
 
     /// Returns the size of each cell of a region in words, or None if it is empty or there is no such region.
@@ -267,10 +271,11 @@ impl Regions {
         }
     }
 
-    /// Returns the storage of a region, or None if it is empty or there is no such region.
-    pub fn region(&self, region: u64) -> Option<&Storage>
+    /// Returns a region to be looked at, or None if it is empty or there is no such region.
+    #[inline(always)]
+    pub fn region(&self, region: u64) -> Option<RegionView<'_>>
         ensures { MatchOption result (used_at self.now.regions region ≡ None)
-            (λ s. used_at self.now.regions region ≡ Some s.now) }
+            (λ u. used_at self.now.regions region ≡ Some u) }
     {
         self.storage_at(region as usize)
     }
@@ -291,7 +296,9 @@ impl Regions {
         ensures value { result ≡ count_by is_live (cells_of (used_at self.now.regions region)) }
         ensures limit { result ≤ cell_limit }
     {
-        self.storage(region as usize).live_objects()
+        let counts = self.storage(region as usize).counts();
+        let live = counts.objects - counts.dead;
+        live as u64
     }
 
     /// Returns the number of objects of a region, which must be in use, that aren't live. Takes constant time.
@@ -301,7 +308,8 @@ impl Regions {
         ensures value { result ≡ count_by is_dead (cells_of (used_at self.now.regions region)) }
         ensures limit { result ≤ cell_limit }
     {
-        self.storage(region as usize).dead_objects()
+        let counts = self.storage(region as usize).counts();
+        counts.dead as u64
     }
 
     /// Returns the number of a region in use, as the places of its cells have it.
@@ -329,7 +337,7 @@ impl Regions {
         ensures { result
             ≡ slice_get (filter_map pending_place (enumerate_from 0 self.now.regions)) 0 }
     {
-        match self.waits.find(WAITING) {
+        match self.waits.first() {
             Some(region) => Some(region as u64),
             None => None,
         }
@@ -408,39 +416,41 @@ impl Regions {
         ensures { WritesPending region pending self.old self.new }
     {
         let region = region as usize;
-        set_pending_in(&mut self.slots[region], pending);
-        self.waits.set(region, wait_class(&self.slots[region]));
+        self.slots.set_pending(region, pending);
+        self.waits.set(region, self.slots.wait_class(region));
     }
 
-    /// Turns the bits of all objects of a region in use: each is live if it was marked, and marked if it wasn't live. The region
-    /// then waits to be swept if it didn't. Returns the number of objects that weren't marked. Takes no memory.
-    #[tactic(auto, using(crate::proofs::SlotChanges::used_slots))]
-    pub fn turn(&mut self, region: u64) -> u64
-        requires { IsSome (used_at self.old.regions region) }
+    /// Turns the bits of all objects: each is live if it was marked, and marked if it wasn't live. A region in use then waits to
+    /// be swept if it didn't. Returns the number of objects that weren't marked. Takes constant time, and no memory.
+    pub fn turn(&mut self) -> u64
         ensures turned { self.new
-            ≡ record self.old { regions = with_region region turned_region self.old.regions } }
-        ensures unmarked { result ≡ unmarked_in (used_at self.old.regions region) }
-        ensures limit { result ≤ cell_limit }
+            ≡ record self.old { regions = map (in_used turned_region) self.old.regions } }
+        ensures unmarked { result ≡ unmarked_total self.old.regions }
     {
-        let region = region as usize;
-        let unmarked = turn_in(&mut self.slots[region]);
-        self.waits.set(region, wait_class(&self.slots[region]));
+        let unmarked = self.totals.unmarked as u64;
+        self.slots.turn();
+        self.waits.turn();
+        self.totals = self.totals.next();
         unmarked
     }
 
-    /// Undoes `turn`. Takes no memory.
-    #[tactic(auto, using(crate::proofs::SlotChanges::used_slots))]
-    pub fn turn_back(&mut self, region: u64)
-        requires { IsSome (used_at self.old.regions region) }
+    /// Undoes `turn`. Takes constant time, and no memory.
+    #[inline(never)]
+    pub fn turn_back(&mut self)
         ensures { self.new
-            ≡ record self.old {
-              regions = with_region region turned_back_region
-                  self.old.regions;
-            } }
+            ≡ record self.old { regions = map (in_used turned_back_region) self.old.regions } }
     {
-        let region = region as usize;
-        turn_back_in(&mut self.slots[region]);
-        self.waits.set(region, wait_class(&self.slots[region]));
+        self.slots.turn_back();
+        self.waits.turn();
+        self.totals = self.totals.prior();
+    }
+
+    /// Prepares a region for many reads: each takes longer after a turn, until the region is changed. Changes nothing that contracts
+    /// see. Takes constant time, and no memory.
+    pub fn settle(&mut self, region: u64)
+        ensures { self.new ≡ self.old }
+    {
+        self.slots.settle(region as usize);
     }
 
     /// Returns a copy of the object in the cell, which must have one. Fails with NoMemory if its words can't be allocated.
@@ -469,10 +479,11 @@ impl Regions {
             → IsSomeAnd (used_at before.regions at.region) (λ u. slice_get u.free 0 ≡ Some at.cell)
             → self.old ≡ taken at o before → self.new ≡ before }
     {
-        let region = at.region as usize;
-        if free_in(&mut self.slots[region], at.cell as usize) {
-            self.free_classes
-                .set(region, free_class(&self.slots[region]));
+        // With two calls, of which each is the last thing that is done, mostly no register has to be saved.
+        if self.slots.is_late(at.region as usize) {
+            self.free_late(at);
+        } else {
+            self.free_now(at);
         }
     }
 
@@ -488,7 +499,8 @@ impl Regions {
             → self.old ≡ freed at before → self.new ≡ before }
     {
         let region = at.region as usize;
-        if unfree_in(&mut self.slots[region], at.cell as usize, object) {
+        self.totals = self.totals.with(object.header());
+        if self.slots.unfree(region, at.cell as usize, object) {
             self.free_classes.set(region, 0);
         }
     }
@@ -506,14 +518,12 @@ impl Regions {
             → self.new ≡ before }
     {
         let region = region as usize;
-        let slot = self.slots[region].take();
+        let storage = self.slots.take_out(region);
+        self.totals = self.totals.less(storage.counts());
         self.free_classes.set(region, 0);
         self.waits.set(region, 0);
         give_head(&mut self.pool, region, self.area_start);
-        match slot {
-            Some(storage) => storage,
-            None => unreachable!(),
-        }
+        storage
     }
 
     /// Moves a storage into the region that heads the pool, or into a region of the area from which enough regions are empty. The
@@ -528,10 +538,10 @@ impl Regions {
     {
         let region = region as usize;
         take_head(&mut self.pool, region, self.area_start);
-        self.slots[region] = Some(storage);
-        self.free_classes
-            .set(region, free_class(&self.slots[region]));
-        self.waits.set(region, wait_class(&self.slots[region]));
+        self.totals = self.totals.plus(storage.counts());
+        self.slots.put_in(region, storage);
+        self.free_classes.set(region, self.slots.free_class(region));
+        self.waits.set(region, self.slots.wait_class(region));
     }
 
     /// Returns a copy of a region in use. Fails with NoMemory if the allocation fails.
@@ -570,8 +580,8 @@ impl Regions {
         ensures { IfOk result (λ s. s ≡ opening_pool count area) }
     {
         let free_classes = RegionClasses::new(alloc, count)?;
-        let waits = RegionClasses::new(alloc, count)?;
-        let slots = empty_slots(alloc, count)?;
+        let waits = Waits::new(alloc, count)?;
+        let slots = Slots::new(alloc, count)?;
         let area_start = count - area;
         let pool = full_pool(alloc, area_start)?;
         Ok(Regions {
@@ -579,6 +589,7 @@ impl Regions {
             slots,
             free_classes,
             waits,
+            totals: Counts::none(),
             pool,
             area_start,
         })
@@ -648,7 +659,42 @@ impl Regions {
         ensures value { result ≡ first_run count self.now }
         ensures limit { IfSome result (λ region. region < region_limit) }
     {
-        first_run_in(&self.slots, self.area_start, count)
+        self.slots.first_run(self.area_start, count)
+    }
+
+    // Takes an object out of its cell, in a region whose storage was turned less far than the heap, or any other.
+    #[inline(never)]
+    fn free_late(&mut self, at: ObjRef)
+        requires there { IsSome (object_at self.old.regions at) }
+        requires another { (other : ObjRef) × (other.region ≡ at.region) × (other ≢ at)
+            × IsSome (object_at self.old.regions other) }
+        ensures state { self.new ≡ freed at self.old }
+        ensures back { (before : RegionPool) (o : Object) → IsRegionPool before
+            → IsSomeAnd (used_at before.regions at.region) (λ u. slice_get u.free 0 ≡ Some at.cell)
+            → self.old ≡ taken at o before → self.new ≡ before }
+    {
+        self.settle(at.region as u64);
+        self.free_now(at);
+    }
+
+    // Takes an object out of its cell.
+    #[tactic(auto, using(crate::proofs::SlotChanges::object_slots))]
+    #[inline(always)]
+    fn free_now(&mut self, at: ObjRef)
+        requires there { IsSome (object_at self.old.regions at) }
+        requires another { (other : ObjRef) × (other.region ≡ at.region) × (other ≢ at)
+            × IsSome (object_at self.old.regions other) }
+        ensures state { self.new ≡ freed at self.old }
+        ensures back { (before : RegionPool) (o : Object) → IsRegionPool before
+            → IsSomeAnd (used_at before.regions at.region) (λ u. slice_get u.free 0 ≡ Some at.cell)
+            → self.old ≡ taken at o before → self.new ≡ before }
+    {
+        let region = at.region as usize;
+        let (full, was) = self.slots.free(region, at.cell as usize);
+        self.totals = self.totals.without(Some(was));
+        if full {
+            self.free_classes.set(region, self.slots.free_class(region));
+        }
     }
 
     // Writes a bit of an object, which must be there.
@@ -659,29 +705,27 @@ impl Regions {
         ensures { self.new
             ≡ record self.old { regions = with_object at (bit_set bit on) self.old.regions } }
     {
-        set_bit_in(
-            &mut self.slots[at.region as usize],
-            at.cell as usize,
-            bit,
-            on,
-        );
+        let was = self
+            .slots
+            .set_bit(at.region as usize, at.cell as usize, bit, on);
+        self.totals = self.totals.with_bit(bit, was, on);
     }
 
-    // Returns the storage of a region if it is in use.
+    // Returns a region if it is in use.
     #[inline(always)]
-    fn storage_at(&self, region: usize) -> Option<&Storage>
+    fn storage_at(&self, region: usize) -> Option<RegionView<'_>>
         ensures value { MatchOption result (used_at self.now.regions region ≡ None)
-            (λ s. used_at self.now.regions region ≡ Some s.now) }
+            (λ u. used_at self.now.regions region ≡ Some u) }
         ensures limit { IfSome result (λ s. region < region_limit) }
     {
-        slot_at(&self.slots, region)
+        self.slots.at(region)
     }
 
-    // Returns the storage of a region in use.
+    // Returns a region in use.
     #[inline(always)]
-    fn storage(&self, region: usize) -> &Storage
+    fn storage(&self, region: usize) -> RegionView<'_>
         requires { IsSome (used_at self.now.regions region) }
-        ensures value { used_at self.now.regions region ≡ Some result.now }
+        ensures value { used_at self.now.regions region ≡ Some result }
         ensures limit { region < region_limit }
     {
         match self.storage_at(region) {
@@ -710,7 +754,7 @@ impl Regions {
             ≡ slice_get (filter_map (free_place size) (enumerate_from 0 self.now.regions)) 0 }
     {
         let region = self.free_classes.find(size_class(size))?;
-        let cell = free_head_in(&self.slots[region]);
+        let cell = self.slots.free_head(region);
         Some(ObjRef {
             region: region as u16,
             cell: cell as u16,
@@ -734,7 +778,14 @@ impl Regions {
         ensures { self.new ≡ taken at (blank_object kind len mark) self.old }
     {
         let region = at.region as usize;
-        if take_in(&mut self.slots[region], at.cell as usize, kind, len, mark) {
+        let header = Header {
+            kind,
+            len,
+            live: true,
+            mark,
+        };
+        self.totals = self.totals.with(header);
+        if self.slots.take(region, at.cell as usize, kind, len, mark) {
             self.free_classes.set(region, 0);
         }
     }

@@ -11,8 +11,8 @@ use std::marker::Model;
 // The number of classes that a byte can be. At most 6 of them are used.
 const CLASSES: usize = 256;
 
-// For each region its class, and for each class the lowest region that has it, or the number of regions. Contracts see the
-// classes.
+// For each region its class, and for each class but 0 the lowest region that has it, or the number of regions. Nobody asks for
+// the lowest region of class 0. Contracts see the classes.
 #[derive(Drop)]
 pub(crate) struct RegionClasses {
     classes: Vec<u8>,
@@ -32,24 +32,19 @@ impl Model for RegionClasses {
         × AreLowest f.classes.items f.lowest };
 }
 
-// Returns the lowest region from this one on that has a class, or the number of regions.
+// Returns the lowest region from this one on that has a class, or the number of regions. Class 0 isn't searched for.
 fn lowest_from(classes: &[u8], from: usize, class: u8) -> usize
     requires { from ≤ length classes.now }
-    ensures { IsLowest classes.now class from result }
+    ensures value { 1 ≤ class → IsLowest classes.now class from result }
+    ensures limit { result ≤ length classes.now }
 {
+    if class == 0 {
+        return from;
+    }
     match memchr(class, &classes[from..]) {
         Some(behind) => from + behind,
         None => classes.len(),
     }
-}
-
-// Returns the lowest region of each class where all have class 0.
-fn lowest_of_none(count: u32) -> [u32; CLASSES]
-    ensures { result ≡ slice_set (replicate 256 count) 0 0 }
-{
-    let mut lowest = [count; CLASSES];
-    lowest[0] = 0;
-    lowest
 }
 
 impl RegionClasses {
@@ -60,13 +55,14 @@ impl RegionClasses {
     {
         Ok(RegionClasses {
             classes: vec![in alloc; 0; count]?,
-            lowest: lowest_of_none(count as u32),
+            lowest: [count as u32; CLASSES],
         })
     }
 
     // Returns the lowest region of this class.
     #[inline(always)]
     pub(crate) fn find(&self, class: u8) -> Option<usize>
+        requires { 1 ≤ class }
         ensures { IsFirstByte (is_byte class) self.now result }
     {
         let lowest = self.lowest[class as usize] as usize;

@@ -1,17 +1,20 @@
 //! A region in use: 1,024 words, cut into cells of one size, with a free list that lies in the free cells; or the words of
 //! several regions in one cell.
-ghost use Rattle.std.specs.Prelude.{◌≡◌, ℕ, ◌+◌, ◌-◌, ◌*◌, ◌/◌, ◌<◌, ◌≤◌, [], length, IfOk, IsSome, IfSome, slice_index, slice_index_or, replicate, take, drop, count_by, Some, None, is_none, is_some, option_map, slice_get, slice_set};
+ghost use Rattle.std.specs.Prelude.{◌≡◌, ℕ, ◌+◌, ◌-◌, ◌*◌, ◌/◌, ◌<◌, ◌≤◌, [], length, IfOk, IsSome, IfSome, slice_index, slice_index_or, replicate, take, drop, Some, None, is_none, is_some, option_map, slice_get, slice_set};
 ghost use Rattle.heap_region.specs.Regions.{FitsWords, block_words, cell_object};
 ghost use Rattle.heap_region.specs.Pool.{blank_object, cell_freed, fresh_region};
-ghost use Rattle.heap_region.specs.Layout.{IsBlockSize, IsWholeRegion, words_at, changed_at, word_set, bit_set, with_bit, cell_filled, Heads, overwritten, header_live, header_of};
-ghost use Rattle.heap_region.specs.Live.{IsNextLive, is_dead, is_live};
-ghost use Rattle.heap_region.specs.Turns.{is_unmarked, turned_region, turned_back_region};
+ghost use Rattle.heap_region.specs.Layout.{IsBlockSize, IsWholeRegion, words_at, changed_at, word_set, bit_of, bit_set, with_bit, cell_filled, Heads, overwritten, header_of};
+ghost use Rattle.heap_region.specs.Slots.{AreCounted};
+ghost use Rattle.heap_region.specs.Turns.{turned_by, turned_region, turned_back_region};
 ghost use Rattle.heap_region.specs.Limits.{cell_limit, heap_words};
 
 use crate::block::Block;
 use crate::cell::{Bit, Header};
+use crate::counts::Counts;
 use crate::headers::Headers;
 use crate::lists::FreeCells;
+use crate::quarter::Quarter;
+use crate::region_view::RegionView;
 use crate::sizes::cell_count;
 use heap_class::ObjKind;
 use smallvec::SmallVec;
@@ -99,6 +102,27 @@ impl ObjectCopy {
     {
         (self.live, self.mark)
     }
+
+    // Sets the two bits, `live` and `mark`.
+    #[inline(always)]
+    pub(crate) fn set_bits(&mut self, bits: (bool, bool))
+        ensures { self.new ≡ record self.old { live = bits.0; mark = bits.1 } }
+    {
+        self.live = bits.0;
+        self.mark = bits.1;
+    }
+
+    // Returns what counts of the object: its header.
+    pub(crate) fn header(&self) -> Header
+        ensures { result ≡ header_of self.now }
+    {
+        Header {
+            kind: self.kind,
+            len: self.words.len(),
+            live: self.live,
+            mark: self.mark,
+        }
+    }
 }
 
 // Returns the header of the object in a cell, which must have one.
@@ -120,28 +144,16 @@ fn is_taken(headers: &Headers, cell: usize) -> bool
     cell < headers.len() && headers.at(cell).is_some()
 }
 
-// Tells whether a cell has a live object.
+// Returns the two bits of the object in a cell. None if the cell has no object.
 #[inline(always)]
-fn is_live_at(headers: &Headers, cell: usize) -> bool
-    requires { cell < length headers.now }
-    ensures { result ≡ header_live (slice_index_or headers.now cell None) }
-{
-    match headers.at(cell) {
-        Some(header) => header.live,
-        None => false,
-    }
-}
-
-// Tells whether the object of a cell is live. None if the cell has no object.
-#[inline(always)]
-fn liveness_at(headers: &Headers, cell: usize) -> Option<bool>
-    ensures { result ≡ option_map (λ h. h.live) (slice_index_or headers.now cell None) }
+fn bits_at(headers: &Headers, cell: usize) -> Option<(bool, bool)>
+    ensures { result ≡ option_map (λ h. (h.live, h.mark)) (slice_index_or headers.now cell None) }
 {
     if cell >= headers.len() {
         return None;
     }
     match headers.at(cell) {
-        Some(header) => Some(header.live),
+        Some(header) => Some((header.live, header.mark)),
         None => None,
     }
 }
@@ -164,13 +176,7 @@ pub(crate) fn put_object(block: &mut Block, start: usize, cell: usize, object: &
         ≡ slice_set block.old.headers cell (Some (header_of object.now)) }
 {
     block.overwrite(start, &object.words);
-    let header = Header {
-        kind: object.kind,
-        len: object.words.len(),
-        live: object.live,
-        mark: object.mark,
-    };
-    block.set(cell, header);
+    block.set(cell, object.header());
 }
 
 impl Storage {
@@ -190,16 +196,16 @@ impl Storage {
         })
     }
 
-    /// Returns the number of cells of the region: at most 256.
-    pub fn cells(&self) -> u64
+    // Returns the number of cells of the region: at most 256.
+    pub(crate) fn cells(&self) -> u64
         ensures value { result ≡ length self.now.cells }
         ensures limit { result ≤ cell_limit }
     {
         self.block.headers().len() as u64
     }
 
-    /// Returns the number of words of the regions that the storage takes.
-    pub fn word_count(&self) -> u64
+    // Returns the number of words of the regions that the storage takes.
+    pub(crate) fn word_count(&self) -> u64
         ensures value { result ≡ block_words self.now.cell_size }
         ensures limit { result ≤ heap_words }
     {
@@ -246,28 +252,42 @@ impl Storage {
         self.pending = !self.pending;
     }
 
-    // Returns the number of objects that aren't marked.
-    pub(crate) fn unmarked(&self) -> u64
-        ensures value { result ≡ count_by is_unmarked self.now.cells }
-        ensures limit { result ≤ cell_limit }
+    // Turns the bits so many times, modulo 4.
+    #[tactic(auto, unfolding(crate::specs::Turns::turned_by))]
+    #[inline(never)]
+    pub(crate) fn turn_by(&mut self, turns: Quarter)
+        ensures { self.new ≡ turned_by turns self.old }
     {
-        self.block.headers().unmarked()
+        match turns {
+            Quarter::Zero => {}
+            Quarter::One => self.turn(),
+            Quarter::Two => {
+                self.turn();
+                self.turn();
+            }
+            Quarter::Three => self.turn_back(),
+        }
     }
 
-    // Returns the number of objects that are live.
-    pub(crate) fn live_objects(&self) -> u64
-        ensures value { result ≡ count_by is_live self.now.cells }
-        ensures limit { result ≤ cell_limit }
+    /// Returns the region as it is read.
+    #[inline(always)]
+    pub fn view(&self) -> RegionView<'_>
+        ensures { result ≡ self.now }
     {
-        self.block.headers().live()
+        RegionView {
+            storage: self,
+            seen: Quarter::Zero,
+            turns: Quarter::Zero,
+        }
     }
 
-    // Returns the number of objects that aren't live.
-    pub(crate) fn dead_objects(&self) -> u64
-        ensures value { result ≡ count_by is_dead self.now.cells }
-        ensures limit { result ≤ cell_limit }
+    // Returns how many objects there are, and of how many a bit isn't set.
+    #[inline(always)]
+    pub(crate) fn counts(&self) -> Counts
+        ensures counted { AreCounted self.now.cells result }
+        ensures whole { IsWholeRegion self.now }
     {
-        self.block.headers().dead()
+        self.block.headers().counts()
     }
 
     // Returns the cell that heads the free list, which must have one.
@@ -334,33 +354,20 @@ impl Storage {
         (header.live, header.mark)
     }
 
-    /// Tells whether there is an object in the cell. False if the region doesn't have the cell.
-    pub fn has_object(&self, cell: u64) -> bool
+    // Tells whether there is an object in the cell. False if the region doesn't have the cell.
+    pub(crate) fn has_object(&self, cell: u64) -> bool
         ensures { result ≡ is_some (slice_index_or self.now.cells cell None) }
     {
         is_taken(self.block.headers(), cell as usize)
     }
 
-    /// Tells whether the object in the cell is live. None if there is no object in it or the region doesn't have the cell.
+    // Returns the two bits of the object in the cell, `live` and `mark`. None if there is no object in it or the region doesn't
+    // have the cell.
     #[inline(always)]
-    pub fn liveness(&self, cell: u64) -> Option<bool>
-        ensures { result ≡ option_map (λ o. o.live) (cell_object self.now cell) }
+    pub(crate) fn bits_if(&self, cell: u64) -> Option<(bool, bool)>
+        ensures { result ≡ option_map (λ o. (o.live, o.mark)) (cell_object self.now cell) }
     {
-        liveness_at(self.block.headers(), cell as usize)
-    }
-
-    // Returns the first cell from this one on that has a live object.
-    pub(crate) fn next_live(&self, from: usize) -> Option<usize>
-        ensures value { IsNextLive self.now from result }
-        ensures limit { IfSome result (λ cell. cell < cell_limit) }
-    {
-        let headers = self.block.headers();
-        for cell in from..headers.len() {
-            if is_live_at(headers, cell) {
-                return Some(cell);
-            }
-        }
-        None
+        bits_at(self.block.headers(), cell as usize)
     }
 
     // Returns a word of the object in the cell.
@@ -395,15 +402,16 @@ impl Storage {
         self.block.set_word(at, value);
     }
 
-    // Writes a bit of the object in the cell.
+    // Writes a bit of the object in the cell. Returns the bit that it had.
     #[tactic(auto, using(crate::proofs::Cells::shown_headers))]
     #[inline(always)]
-    pub(crate) fn set_bit(&mut self, cell: usize, bit: Bit, on: bool)
+    pub(crate) fn set_bit(&mut self, cell: usize, bit: Bit, on: bool) -> bool
         requires { IsSome (cell_object self.old cell) }
+        ensures was { IfSome (cell_object self.old cell) (λ o. result ≡ bit_of bit o) }
         ensures value { self.new ≡ changed_at self.old cell (bit_set bit on) }
         ensures whole { IsWholeRegion self.new }
     {
-        self.block.set_bit(cell, bit, on);
+        self.block.set_bit(cell, bit, on)
     }
 
     // Returns a copy of the object in the cell. Fails if the allocation fails.
@@ -423,17 +431,20 @@ impl Storage {
         })
     }
 
-    // Takes the object out of the cell, which then heads the free list.
+    // Takes the object out of the cell, which then heads the free list. Returns the object's header.
     #[tactic(auto, using(crate::proofs::Cells::headers_lie))]
-    pub(crate) fn free(&mut self, cell: usize)
+    #[inline(always)]
+    pub(crate) fn free(&mut self, cell: usize) -> Header
         requires { IsSome (cell_object self.old cell) }
+        ensures was { IfSome (cell_object self.old cell) (λ o. result ≡ header_of o) }
         ensures state { self.new ≡ cell_freed self.old cell }
         ensures whole { IsWholeRegion self.new }
     {
         let start = cell * self.cell_size as usize;
         self.block.set_word(start, self.head as u64);
-        self.block.free(cell);
+        let was = self.block.free(cell);
         self.head = (cell + 1) as u16;
+        was
     }
 
     // Puts a new object into the cell, which heads the free list.

@@ -13,8 +13,9 @@ use Rattle.heap_server.specs.declared.client_session.SessionEnd.{SessionEnd}
 use Rattle.heap_server.specs.declared.client_session.SessionEnd.TheVariants.{Ran, Http, Stranger, Idle}
 use Rattle.heap_server.specs.declared.sessions.Terms.{Terms}
 use Rattle.heap_server.specs.Clients.{IsToldAs, ServesClient, TurnsAway, plain_end}
-use Rattle.heap_server.specs.Stations.{IsAttended, IsAttendedOn, IsAttendedStaying, IsLimited, Station, first_station, seat_acts, seat_answers, staying_begins, staying_says}
-use Rattle.heap_server.specs.StayingSeats.{ClosesEach, StayingStation, first_staying}
+use Rattle.heap_server.specs.Stations.{IsAttended, IsAttendedOn, IsAttendedStaying, IsLimited, staying_begins, staying_says}
+use Rattle.seat_session.specs.SeatStations.{Station, first_station, seat_acts, seat_answers}
+use Rattle.seat_session.specs.StayingSeats.{ClosesEach, StayingStation, first_staying}
 
 -- what a session does that answers questions or doesn't
 abbrev pub ServesSeat : SessionLimits → HeapSettings → Bool → ℕ → Option (List ℕ) → List ℕ → Bool → Incoming → Incoming → Station → Outgoing → Station → Outgoing → SessionEnd → Type 0

@@ -1,16 +1,12 @@
 pub mod CopySteps
 pub mod ReportLines
 pub mod UserSeats
-pub mod Acts
-pub mod DumpTexts
 pub mod WorkerRuns
-pub mod HeldSteps
 pub mod FirstLines
 pub mod AheadReads
 pub mod AheadSeen
 pub mod ClientSessions
 pub mod SeatOrder
 pub mod SittingTurns
-pub mod OpenPins
 pub mod Stays
 pub mod LentSessions

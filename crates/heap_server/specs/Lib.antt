@@ -1,18 +1,14 @@
-pub mod JoinedActs
-pub mod JoinedAnswers
 pub mod Copies
 pub mod ClientEndings
 pub mod SocketTraffic
 pub mod Stations
 pub mod SessionSeats
 pub mod Reports
-pub mod DumpAnswers
 pub mod Tending
 pub mod Http
 pub mod Clients
 pub mod Ahead
 pub mod PageSessions
-pub mod StayingSeats
 pub mod Staying
 -- What clauses here, and proofs above, cite of the crates below.
 pub use Rattle.heap_lock.specs.Blanks
@@ -21,3 +17,4 @@ pub use Rattle.heap_lock.specs.LockStates
 pub use Rattle.heap_lock.specs.Seated
 pub use Rattle.heap_lock.specs.declared.role.Role
 pub use Rattle.secret_word.specs.Words
+pub use Rattle.seat_session.specs.SeatStations

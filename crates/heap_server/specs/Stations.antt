@@ -1,4 +1,4 @@
--- Where a session over a shared heap stands, and what a client did from a seat.
+-- What a client did from a seat of a shared heap.
 use Rattle.std.specs.Prelude.{◌≡◌, ◌⊎◌, ℕ, ◌≤◌, Bool, true, false, List, [], ◌∷◌, Option, Some, None}
 use Rattle.heap_lock.specs.Seated.{TableId}
 use Rattle.dump_pump.specs.Inlets.{Incoming}
@@ -8,53 +8,18 @@ use Rattle.heap_lock.specs.Blanks.{seat_model_of}
 use Rattle.heap_lock.specs.Calls.{Call, IsLegalLedger}
 use Rattle.heap_lock.specs.LockStates.{SeatModel, IsSeatModel}
 use Rattle.heap_lock.specs.declared.unnamed_seat.UnnamedSeat.{UnnamedSeat}
-use Rattle.session_text.specs.Answers.{AnswerRelation, AnswersCommand, Begins, all_bad}
-use Rattle.session_text.specs.Dumps.{Acts}
+use Rattle.session_text.specs.Answers.{AnswerRelation, AnswersCommand, Begins}
 use Rattle.session_text.specs.Limits.{longest_line}
 use Rattle.session_text.specs.declared.Ended.TheVariants.{NoMemory}
 use Rattle.heap_server.specs.Ahead.{IsAhead}
 use Rattle.heap_server.specs.Clients.{ServesClient, plain_end}
-use Rattle.heap_server.specs.JoinedActs.{IsJoined}
-use Rattle.heap_server.specs.JoinedAnswers.{AnswersForSeat}
 use Rattle.heap_server.specs.SocketTraffic.{Traffic}
-use Rattle.heap_server.specs.StayingSeats.{ClosesEach, StayingStation, first_staying, staying_acts, staying_answers}
-use Rattle.question_grammar.specs.Bookmarks.{Bookmarks, no_bookmarks}
-use Rattle.question_grammar.specs.NoteLines.{place_opened}
-use Rattle.session_text.specs.Replies.{reply_text}
-use Rattle.heap_lock.specs.Action.TheVariants.{OpenPin}
-use Rattle.heap_lock.specs.Reply.{Reply}
+use Rattle.seat_session.specs.StayingSeats.{ClosesEach, StayingStation, first_staying, staying_acts, staying_answers}
 use Rattle.heap_server.specs.declared.client_session.SessionEnd.{SessionEnd}
 use Rattle.heap_server.specs.declared.client_session.SessionEnd.TheVariants.{Ran, Idle}
 use Rattle.heap_server.specs.declared.sessions.SeatEnd.{SeatEnd}
 use Rattle.heap_server.specs.declared.sessions.Terms.{Terms}
-
--- a session's seat, the calls that its witness has seen, and what the session notes of places
-pub record Station : Type 0 where
-  pub seat : SeatModel
-  pub seen : List Call
-  pub bookmarks : Bookmarks
-
--- that of a session that begins
-abbrev pub first_station : SeatModel → List Call → Station
-first_station s seen = record { seat = s; seen = seen; bookmarks = no_bookmarks }
-
--- what an action does from a seat on a heap of these settings
-abbrev pub seat_acts : HeapSettings → Acts Station
-seat_acts config c a r d =
-    IsJoined config c.seat c.seen a r d.seat d.seen × (d.bookmarks ≡ c.bookmarks)
-
--- a pin is opened on the state at a place; or the seat answers a line, as it stands and without opening one
-abbrev pub OpensOrAnswers : HeapSettings → Option ℕ → AnswerRelation Station
-OpensOrAnswers config (Some place) l c text d =
-    (r : Reply) × seat_acts config c (OpenPin (Some place)) r d × (text ≡ reply_text r)
-OpensOrAnswers config None l c text d =
-    AnswersForSeat config true l c.seat c.seen c.bookmarks text d.seat d.seen d.bookmarks
-
--- what a line does there that the grammar of sessions doesn't know, if questions are answered or not
-abbrev pub seat_answers : HeapSettings → Bool → AnswerRelation Station
-seat_answers config true l c text d =
-    OpensOrAnswers config (place_opened c.bookmarks l) l c text d
-seat_answers config false l c text d = all_bad l c text d
+use Rattle.seat_session.specs.SeatStations.{Station, first_station, seat_acts, seat_answers}
 
 -- what a line does there on these terms
 abbrev pub seat_says : HeapSettings → Terms → AnswerRelation Station

@@ -2,15 +2,11 @@
 #![tactic(auto)]
 
 mod ahead;
-pub mod asking;
 mod beside;
 pub mod client;
 pub mod client_session;
 pub mod copy;
-mod held_heap;
 mod http;
-pub mod joined;
-pub mod laws;
 mod paced;
 pub mod page_session;
 pub mod report;
@@ -19,22 +15,19 @@ mod sittings;
 pub mod socket;
 pub mod socket_outlet;
 pub mod staying;
-mod staying_seat;
 pub mod staying_tended;
 pub mod tended;
 pub mod tending;
 mod time_limits;
 
-pub use asking::AskingSeat;
 pub use client::{Asked, Client, SendsFrom, Sent, ask};
 pub use client_session::SessionEnd;
 pub use copy::{Copied, copy_all};
 pub use heap_lock::{Action, Blank, Heap, Refusal, Reply, Seat, Seats, Shared, UnnamedSeat};
 pub use heap_page::{PagePort, PageTerms};
-pub use joined::Joined;
-pub use laws::served_dumps_are_text;
 pub use page_session::serve_beside_page;
 pub use report::{tell_sessions, word};
+pub use seat_session::{AskingSeat, Joined};
 pub use secret_word::Secret;
 pub use sessions::{Ports, SeatEnd, Served, Terms, serve_clients, users};
 pub use shared_dump::DumpListener;

@@ -103,6 +103,6 @@ pub fn weight(left: &Undo) -> u64
         Undo::Snap | Undo::Mark { .. } | Undo::Drain { .. } => 0,
         Undo::Finish { log } => log.len(),
         Undo::Sweep { dead, .. } => dead.weight(),
-        Undo::Reclaim { storage, .. } => storage.word_count() + storage.cells(),
+        Undo::Reclaim { storage, .. } => storage.view().word_count() + storage.view().cells(),
     }
 }

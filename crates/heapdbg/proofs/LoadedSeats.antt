@@ -7,7 +7,7 @@ use Rattle.session_text.specs.declared.limits.SessionLimits.{SessionLimits}
 use Rattle.heap_server.specs.Blanks.{Maker, IsNamed}
 use Rattle.heap_server.specs.Calls.{IsLegalLedger}
 use Rattle.heap_server.specs.LockStates.{SeatModel}
-use Rattle.heap_server.specs.Stations.{Station, seat_acts, seat_answers}
+use Rattle.heap_server.specs.SeatStations.{Station, seat_acts, seat_answers}
 use Rattle.heap_server.specs.Seated.{TableId}
 use Rattle.heap_server.specs.Tending.{AreStaff, IsSeatAfterRuns}
 use Rattle.heap_server.specs.declared.sessions.Terms.{Terms}
@@ -16,10 +16,10 @@ use Rattle.heapdbg_options.specs.HeapLimits.{HeapSettings}
 use Rattle.heapdbg_options.specs.declared.settings.Origin.{Origin}
 use Rattle.heapdbg_options.specs.declared.settings.Service.{Service}
 use Rattle.heapdbg_options.specs.declared.settings.Settings.{Settings}
-use Rattle.heapdbg.specs.Explorations.{IsRunFirst, has_area}
+use Rattle.private_tasks.specs.Explorations.{IsRunFirst, has_area}
 use Rattle.heapdbg.specs.ServeOutcomes.{IsServed, IsServiceEnd, config_of, rolls_of, terms_of}
 use Rattle.heapdbg.specs.ServedHeaps.{AreSeatsFor, AreSeatsUsed, AreSessionsFrom, AreWorkersLeft, IsHeapServed, IsSeatLoaded}
-use Rattle.heapdbg.specs.declared.failure.Fault.{Fault}
+use Rattle.private_tasks.specs.declared.failure.Fault.{Fault}
 use Rattle.heapdbg.specs.declared.served_heap.HeapServed.{HeapServed}
 
 -- lines that were run from a seat left it loaded

@@ -7,8 +7,8 @@ use Rattle.dump_client.specs.Fetches.{IsFetched, fetch_line_of}
 use Rattle.dump_client.specs.declared.intake.Fetched.{Fetched}
 use Rattle.dump_client.specs.declared.intake.Finish.{Finish}
 use Rattle.dump_client.specs.declared.intake.Finish.TheVariants.{Whole, Cut, WriteFault}
-use Rattle.heapdbg.specs.declared.failure.Fault.{Fault}
-use Rattle.heapdbg.specs.declared.failure.Fault.TheVariants as fault
+use Rattle.private_tasks.specs.declared.failure.Fault.{Fault}
+use Rattle.private_tasks.specs.declared.failure.Fault.TheVariants as fault
 
 -- a last line that couldn't be put out comes before the end of the fetch
 abbrev pub fetched_outcome : Finish → Bool → Result (Unit {0}) Fault

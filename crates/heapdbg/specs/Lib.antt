@@ -1,10 +1,7 @@
 -- What the program's tasks do, and the endings of the program.
-pub mod Endings
 pub mod ServeOutcomes
 pub mod ServedHeaps
 pub mod Services
 pub mod FetchOutcomes
-pub mod SaveOutcomes
-pub mod Explorations
 pub mod PageExplorations
 pub mod Runs

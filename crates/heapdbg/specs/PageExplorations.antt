@@ -9,15 +9,16 @@ use Rattle.heap_server.specs.Blanks.{Maker}
 use Rattle.heap_server.specs.Calls.{IsLegalLedger}
 use Rattle.heap_server.specs.PageSessions.{IsServedBeside}
 use Rattle.heap_server.specs.SessionSeats.{AreUsers}
-use Rattle.heap_server.specs.Stations.{Station, seat_acts, seat_answers, seat_begins, seat_says}
+use Rattle.heap_server.specs.Stations.{seat_begins, seat_says}
+use Rattle.heap_server.specs.SeatStations.{Station, seat_acts, seat_answers}
 use Rattle.heap_server.specs.declared.sessions.Terms.{Terms}
 use Rattle.heapdbg_options.specs.HeapLimits.{HeapSettings}
 use Rattle.heapdbg_options.specs.declared.settings.Origin.{Origin}
 use Rattle.heapdbg_options.specs.declared.settings.Settings.{Settings}
-use Rattle.heapdbg.specs.declared.failure.Fault.{Fault}
-use Rattle.heapdbg.specs.declared.failure.Fault.TheVariants.{Listen}
-use Rattle.heapdbg.specs.Endings.{outcome_of}
-use Rattle.heapdbg.specs.Explorations.{IsHindrance, IsRunFirst, has_area}
+use Rattle.private_tasks.specs.declared.failure.Fault.{Fault}
+use Rattle.private_tasks.specs.declared.failure.Fault.TheVariants.{Listen}
+use Rattle.private_tasks.specs.Endings.{outcome_of}
+use Rattle.private_tasks.specs.Explorations.{IsHindrance, IsRunFirst, has_area}
 use Rattle.heapdbg.specs.ServeOutcomes.{config_of}
 use Rattle.question_grammar.specs.Bookmarks.{no_bookmarks}
 

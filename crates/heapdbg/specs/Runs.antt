@@ -1,81 +1,27 @@
 -- A run of the program between its reader and its writer.
-use Rattle.std.specs.Prelude.{◌≡◌, ℕ, ◌⊎◌, Bool, true, false, List, Option, Result, None, Some, Ok, Err, is_some}
+use Rattle.std.specs.Prelude.{◌≡◌, ℕ, ◌⊎◌, Bool, true, List, Option, Result, None, Some, Err, is_some}
 use Rattle.dump_pump.specs.Outlets.{Outgoing}
-use Rattle.heap_trail.specs.declared.Action.{Action}
-use Rattle.heap_trail.specs.declared.Reply.{Reply}
-use Rattle.session_text.specs.Answers.{AnswersCommand, Begins, all_bad}
-use Rattle.session_text.specs.Local.{LocalActs}
-use Rattle.session_text.specs.Machine.{Machine, opening_machine}
-use Rattle.session_text.specs.declared.commands.Local.{Local}
-use Rattle.session_text.specs.declared.Ended.{Ended}
-use Rattle.session_text.specs.Endings.{EndsSession}
 use Rattle.dump_pump.specs.Inlets.{Incoming}
-use Rattle.session_text.specs.Limits.{session_limits}
-use Rattle.session_text.specs.Session.{IsSession}
-use Rattle.question_text.specs.declared.asking.Asking.{Asking}
-use Rattle.question_text.specs.Sessions.{ServesAsking}
-use Rattle.heapdbg.specs.declared.failure.Fault.{Fault}
-use Rattle.heapdbg.specs.declared.failure.Fault.TheVariants.{Memory}
-use Rattle.heapdbg.specs.declared.failure.Failure.{Failure}
+use Rattle.private_tasks.specs.declared.failure.Fault.{Fault}
+use Rattle.private_tasks.specs.declared.failure.Fault.TheVariants.{Memory}
+use Rattle.private_tasks.specs.declared.failure.Failure.{Failure}
 use Rattle.heapdbg.specs.declared.served_heap.HeapServed.{HeapServed}
 use Rattle.heapdbg_options.specs.declared.settings.LineFault.{LineFault}
-use Rattle.heapdbg_options.specs.declared.settings.Origin.{Origin}
 use Rattle.heapdbg_options.specs.declared.settings.Service.{Service}
 use Rattle.heapdbg_options.specs.declared.settings.Settings.{Settings}
 use Rattle.heapdbg_options.specs.declared.settings.Task.{Task}
-use Rattle.heapdbg.specs.declared.failure.Fault.TheVariants as fault
+use Rattle.private_tasks.specs.declared.failure.Fault.TheVariants as fault
 use Rattle.heapdbg_options.specs.declared.settings.Task.TheVariants.{Run, Explore, Draw, Save, Serve, Ask, Fetch}
 use Rattle.heapdbg_options.specs.declared.settings.Target.TheVariants.{Out, To}
-use Rattle.heapdbg_options.specs.CommandLine.{limits_of, settings_of}
-use Rattle.heapdbg.specs.Endings.{failure_of, outcome_of, work_of}
-use Rattle.heapdbg.specs.Explorations.{IsExplored, IsHindrance, IsRunFirst, IsSessionBegun, has_area}
+use Rattle.heapdbg_options.specs.CommandLine.{settings_of}
+use Rattle.private_tasks.specs.Endings.{failure_of, work_of}
+use Rattle.private_tasks.specs.Explorations.{IsExplored}
 use Rattle.heapdbg.specs.FetchOutcomes.{IsDumpFetched}
 use Rattle.heapdbg_options.specs.Refusals.{IsRefusalOf}
-use Rattle.heapdbg.specs.SaveOutcomes.{IsSavedTo}
+use Rattle.private_tasks.specs.SaveOutcomes.{IsSavedTo}
 use Rattle.heapdbg.specs.ServeOutcomes.{IsServerAsked, IsServed}
 use Rattle.heapdbg.specs.PageExplorations.{IsPageExplored}
-
--- an action of a private machine, which keeps the number of the first pin
-abbrev pub OwnActs : Local → Action → Reply → Local → Type 0
-OwnActs c a r d = LocalActs c.machine a r d.machine × (d.first_pin ≡ c.first_pin)
-
--- a session without questions as it begins: over a heap with these settings as it begins, or as the session of a dump left it
-abbrev pub IsRunBegun : Origin → Settings → Local → Type 0
-IsRunBegun origin s c =
-    (b : Local) × (b.machine ≡ opening_machine (limits_of s) s.ids s.regions s.mutators s.keep)
-    × IsRunFirst (session_limits s.wide) (has_area s) origin
-    (AnswersCommand OwnActs all_bad s.time) (Begins OwnActs all_bad s.time) b c
-
--- such a session, and how it ended; or it didn't begin, and then nothing is read or written
-abbrev pub IsRun : Origin → Settings → Incoming → Incoming → Outgoing → Outgoing
-    → Result (Unit {0}) Fault → Type 0
-IsRun origin s a b w w' result =
-    ((ended : Ended) × (c : Local) × (left : Machine) × IsRunBegun origin s c
-    × IsSession (session_limits s.wide) c.machine s.time a b w w' left ended
-    × EndsSession (session_limits s.wide) a b w w' ended × (result ≡ outcome_of ended))
-    ⊎ ((f : Fault) × IsHindrance origin f × (result ≡ Err f) × (b ≡ a) × (w' ≡ w))
-
--- a session with questions or without
-abbrev pub IsRunWith : Bool → Origin → Settings → Incoming → Incoming → Outgoing → Outgoing
-    → Result (Unit {0}) Fault → Type 0
-IsRunWith true origin s a b w w' result = IsExplored origin s a b w w' result
-IsRunWith false origin s a b w w' result = IsRun origin s a b w w' result
-
--- the outcome of a session that was drawn: its own if that is a fault, or that of the picture
-abbrev pub IsDrawingOutcome : Result (Unit {0}) Fault → Result (Unit {0}) Fault → Type 0
-IsDrawingOutcome (Err f) result = result ≡ Err f
-IsDrawingOutcome (Ok done) result =
-    (result ≡ Ok done) ⊎ ((result ≡ Err fault.Out) ⊎ (result ≡ Err Memory))
-
--- a session with questions over a heap with these settings, and a picture of what it left, if it ended well; or it didn't begin,
--- and then nothing is read or written
-abbrev pub IsSessionDrawn : Origin → Settings → Incoming → Incoming → Outgoing → Outgoing
-    → Result (Unit {0}) Fault → Type 0
-IsSessionDrawn origin s a b w w' result =
-    ((ended : Ended) × (c : Asking) × (left : Asking) × IsSessionBegun origin s c
-    × ServesAsking (session_limits s.wide) s.time a b c w left w' ended
-    × EndsSession (session_limits s.wide) a b w w' ended × IsDrawingOutcome (outcome_of ended) result)
-    ⊎ ((f : Fault) × IsHindrance origin f × (result ≡ Err f) × (b ≡ a) × (w' ≡ w))
+use Rattle.private_tasks.specs.PrivateRuns.{IsRunWith, IsSessionDrawn}
 
 -- a session that was saved to a file; or the folder of its path was not there, and nothing was read or written
 abbrev pub IsSavedOut : Settings → Incoming → Incoming → Outgoing → Outgoing

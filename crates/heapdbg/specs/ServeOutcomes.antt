@@ -11,17 +11,17 @@ use Rattle.heap_server.specs.declared.client.Asked.{Asked}
 use Rattle.heap_server.specs.declared.client.Asked.TheVariants as asked
 use Rattle.heap_server.specs.declared.sessions.Served.{Served}
 use Rattle.heap_server.specs.declared.sessions.Terms.{Terms}
-use Rattle.heapdbg.specs.declared.failure.Fault.{Fault}
+use Rattle.private_tasks.specs.declared.failure.Fault.{Fault}
 use Rattle.heapdbg.specs.declared.served_heap.HeapServed.{HeapServed}
 use Rattle.heapdbg.specs.declared.served_heap.Sessions.{Sessions}
 use Rattle.heapdbg.specs.declared.served_heap.Sessions.TheVariants.{Once, Stayed}
-use Rattle.heapdbg.specs.declared.failure.Fault.TheVariants.{Accept, Connect, Listen, Memory, Read, Write}
+use Rattle.private_tasks.specs.declared.failure.Fault.TheVariants.{Accept, Connect, Listen, Memory, Read, Write}
 use Rattle.heapdbg_options.specs.HeapLimits.{HeapSettings}
 use Rattle.heapdbg_options.specs.declared.settings.Origin.{Origin}
 use Rattle.heapdbg_options.specs.declared.settings.Service.{Service}
 use Rattle.heapdbg_options.specs.CommandLine.{limits_of}
 use Rattle.heapdbg_options.specs.declared.settings.Settings.{Settings}
-use Rattle.heapdbg.specs.Explorations.{IsHindrance}
+use Rattle.private_tasks.specs.Explorations.{IsHindrance}
 use Rattle.heapdbg.specs.ServedHeaps.{AreSeatsFor, IsHeapServed}
 
 -- an accept that failed is named before a write that did

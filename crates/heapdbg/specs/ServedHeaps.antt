@@ -9,7 +9,7 @@ use Rattle.heap_server.specs.Role.TheVariants.{User}
 use Rattle.heap_server.specs.Seated.{TableId}
 use Rattle.heap_server.specs.LockStates.{SeatModel}
 use Rattle.heap_server.specs.SessionSeats.{IsFor}
-use Rattle.heap_server.specs.Stations.{Station, seat_acts, seat_answers}
+use Rattle.heap_server.specs.SeatStations.{Station, seat_acts, seat_answers}
 use Rattle.heap_server.specs.Staying.{AreStays}
 use Rattle.heap_server.specs.Tending.{AreStaff, IsSeatAfterRuns, MarkRuns, SweepRuns}
 use Rattle.heap_server.specs.declared.sessions.Terms.{Terms}
@@ -17,7 +17,7 @@ use Rattle.heapdbg_options.specs.HeapLimits.{HeapSettings}
 use Rattle.heapdbg_options.specs.declared.settings.Origin.{Origin}
 use Rattle.heapdbg_options.specs.declared.settings.Service.{Service}
 use Rattle.heapdbg_options.specs.declared.settings.Settings.{Settings}
-use Rattle.heapdbg.specs.Explorations.{IsRunFirst, has_area}
+use Rattle.private_tasks.specs.Explorations.{IsRunFirst, has_area}
 use Rattle.heapdbg.specs.declared.served_heap.HeapServed.{HeapServed}
 use Rattle.heapdbg.specs.declared.served_heap.Sessions.{Sessions}
 use Rattle.heapdbg.specs.declared.served_heap.Sessions.TheVariants.{Once, Stayed}

@@ -3,10 +3,10 @@ ghost use Rattle.std.specs.Prelude.{◌≡◌, [], Err, None, IfNone, IfSome};
 ghost use Rattle.heap_server.specs.declared.client.Asked.TheVariants as ended;
 ghost use Rattle.heapdbg.specs.ServeOutcomes.{IsAskedAs, IsUnasked, asked_outcome};
 
-use crate::failure::Fault;
 use crate::ports::connect;
 use dump_pump::Outlet;
 use heap_server::{Asked, Client, Half, SocketOutlet, ask, halves};
+use private_tasks::Fault;
 use secret_word::Secret;
 use session_text::{Inlet, ReadInlet};
 use std::net::{Net, TcpStream};

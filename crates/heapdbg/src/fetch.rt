@@ -3,12 +3,10 @@ ghost use Rattle.std.specs.Prelude.{◌≡◌, Err, None, IfErr, IfNone, IfSome}
 ghost use Rattle.dump_client.specs.Fetches.{IsFetched};
 ghost use Rattle.heapdbg.specs.FetchOutcomes.{IsFetchTold, IsUnfetched, fetched_outcome};
 
-use crate::failure::Fault;
 use crate::ports::connect;
-use crate::progress::ProgressLine;
-use crate::reasons::tell_path;
 use dump_client::{Fetched, Finish, fetch, say_word, write_last};
 use dump_pump::{Outlet, WriteOutlet};
+use private_tasks::{Fault, ProgressLine, tell_path};
 use secret_word::Secret;
 use session_text::{Inlet, ReadInlet};
 use std::fs;

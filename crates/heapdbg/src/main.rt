@@ -4,32 +4,17 @@
 #![tactic(auto)]
 
 mod ask;
-mod draw;
-mod explore;
-mod failure;
 mod fetch;
-mod first_dump;
-mod first_lines;
-mod folder;
-mod opening;
 mod page_exploration;
 mod ports;
-mod progress;
-mod reasons;
-mod request;
-mod run;
-mod save;
-mod second_dump;
-mod secret_file;
 mod serve;
 mod served_heap;
 mod task;
-mod terminals;
 mod watched_seat;
 
+use private_tasks::{Terminals, report};
 use std::io::IsTerminal;
 use std::process::ExitCode;
-use terminals::Terminals;
 
 // Runs the program, and reports its failure, if any, on standard error, or a text that is asked for on standard output.
 fn main(rt: HostRuntime) -> ExitCode {
@@ -39,5 +24,5 @@ fn main(rt: HostRuntime) -> ExitCode {
         error: rt.stderr().is_terminal(),
     };
     let done = task::perform(&rt, terminals);
-    failure::report(&mut rt.stdout(), &mut rt.stderr(), &done)
+    report(&mut rt.stdout(), &mut rt.stderr(), &done)
 }

@@ -5,20 +5,17 @@ ghost use Rattle.heap_server.specs.Role.TheVariants.{User};
 ghost use Rattle.heap_server.specs.SessionSeats.{AreUsers};
 ghost use Rattle.session_text.specs.Limits.{session_limits};
 ghost use Rattle.heapdbg_options.specs.CommandLine.{IsHeapWithin};
-ghost use Rattle.heapdbg.specs.declared.failure.Fault.TheVariants.{Memory};
+ghost use Rattle.private_tasks.specs.declared.failure.Fault.TheVariants.{Memory};
 ghost use Rattle.heapdbg.specs.ServeOutcomes.{config_of};
-ghost use Rattle.heapdbg.specs.Explorations.{has_area};
+ghost use Rattle.private_tasks.specs.Explorations.{has_area};
 ghost use Rattle.heapdbg.specs.PageExplorations.{IsMadeFor, IsPageExplored, IsPageExploredOver};
 
-use crate::failure::{Fault, outcome};
-use crate::first_lines::run_first;
 use crate::ports::page_port;
-use crate::request::Request;
-use crate::terminals::Screen;
 use crate::watched_seat::WatchedSeat;
 use dump_pump::Outlet;
 use heap_server::{Blank, Heap, PagePort, Seat, Seats, serve_beside_page, users};
 use heapdbg_options::settings::{Origin, Settings, config};
+use private_tasks::{Fault, Request, Screen, outcome, run_first};
 use session_text::{Inlet, session_limits};
 use std::alloc::Global;
 use std::fs::Files;
@@ -34,7 +31,7 @@ use std::time::Clock;
 /// that `origin` says are run, and its clients are answered from then until the session has ended. Fails as `explore` does, with
 /// Listen, before anything is run, if the port can't be listened on, and with Memory if no thread or no random bytes for the
 /// key can be had. May wait.
-#[tactic(auto, using(crate::proofs::PageHindrances::no_memory_hinders))]
+#[tactic(auto, using(private_tasks::proofs::Hindrances::no_memory_hinders))]
 pub(crate) fn explore_with_page<R, I: Inlet, O: Outlet>(
     rt: &R,
     request: Request<'_>,
@@ -71,7 +68,7 @@ fn blank_for(alloc: Global, settings: &Settings) -> Result<Blank, Fault>
 }
 
 // Runs the session over a heap that a type names.
-#[tactic(auto, using(crate::proofs::PageHindrances::no_memory_hinders))]
+#[tactic(auto, using(private_tasks::proofs::Hindrances::no_memory_hinders))]
 fn explore_opened<L: Heap + Send + Sync, R, I: Inlet, O: Outlet>(
     rt: &R,
     request: Request<'_>,

@@ -1,10 +1,9 @@
 //! Ports of this computer.
 ghost use Rattle.std.specs.Prelude.{◌≡◌, ◌⊎◌, IfErr};
-ghost use Rattle.heapdbg.specs.declared.failure.Fault.TheVariants.{Connect, Listen, Memory};
+ghost use Rattle.private_tasks.specs.declared.failure.Fault.TheVariants.{Connect, Listen, Memory};
 
-use crate::failure::Fault;
-use crate::reasons::tell_port;
 use heap_server::{DumpListener, PagePort, PageTerms};
+use private_tasks::{Fault, tell_port};
 use std::alloc::Global;
 use std::hash::RandomState;
 use std::net::{Ipv4Addr, Net, TcpListener, TcpStream};

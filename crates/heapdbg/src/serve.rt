@@ -2,18 +2,17 @@
 ghost use Rattle.std.specs.Prelude.{◌≡◌, ◌⊎◌, ◌≤◌, [], Err, None, IfErr, IfOk};
 ghost use Rattle.heap_server.specs.SessionSeats.{session_limit};
 ghost use Rattle.heapdbg_options.specs.CommandLine.{IsHeapWithin};
-ghost use Rattle.heapdbg.specs.declared.failure.Fault.TheVariants.{Listen, Memory};
+ghost use Rattle.private_tasks.specs.declared.failure.Fault.TheVariants.{Listen, Memory};
 ghost use Rattle.heapdbg.specs.ServedHeaps.{AreSeatsFor};
 ghost use Rattle.heapdbg.specs.Services.{IsOpened};
 ghost use Rattle.heapdbg.specs.ServeOutcomes.{AreEndsTold, IsReportTold, IsServed, IsServiceEnd, config_of, served_outcome, terms_of};
 
-use crate::failure::Fault;
 use crate::ports::{dump_listener, listener, page_port};
-use crate::request::Request;
 use crate::served_heap::{HeapServed, Sessions, serve_blank};
 use dump_pump::Outlet;
 use heap_server::{Blank, Ports, Refusal, Served, Terms, tell_sessions, workers_and_users};
 use heapdbg_options::settings::{Service, Settings, config};
+use private_tasks::{Fault, Request};
 use secret_word::Secret;
 use session_text::{session_limits, write_all};
 use std::alloc::Global;

@@ -7,17 +7,15 @@ ghost use Rattle.heap_server.specs.LockStates.{IsSeatModel};
 ghost use Rattle.heap_server.specs.Role.TheVariants.{User};
 ghost use Rattle.heap_server.specs.Tending.{AreStaff};
 ghost use Rattle.question_grammar.specs.Bookmarks.{no_bookmarks};
-ghost use Rattle.heapdbg.specs.Explorations.{IsHindrance, has_area};
+ghost use Rattle.private_tasks.specs.Explorations.{IsHindrance, has_area};
 ghost use Rattle.heapdbg.specs.ServedHeaps.{AreSeatsFor, AreSessionsFrom, AreWorkersLeft, IsHeapServed, IsSeatLoaded};
 
-use crate::failure::Fault;
-use crate::first_lines::run_first;
-use crate::request::Request;
 use heap_server::{
     AskingSeat, Blank, Heap, Joined, Ports, Seat, Seats, Served, Shared, Staff, Stayed, Terms,
     UnnamedSeat, serve_clients, serve_staying, serve_staying_tended, serve_tended,
 };
 use heapdbg_options::settings::{Origin, Service};
+use private_tasks::{Fault, Request, run_first};
 use std::alloc::{AllocError, Global};
 use std::fs::Files;
 use std::marker::Brand;
@@ -76,7 +74,7 @@ where
 }
 
 // Opens a heap that a type names, and serves it as `serve_blank` does.
-#[tactic(auto, using(crate::proofs::PageHindrances::no_memory_hinders))]
+#[tactic(auto, using(private_tasks::proofs::Hindrances::no_memory_hinders))]
 fn serve_named<L: Heap + Send + Sync, R>(
     rt: &R,
     request: Request<'_>,

@@ -9,26 +9,23 @@ ghost use Rattle.heap_server.specs.SessionSeats.{session_limit};
 ghost use Rattle.heapdbg.specs.Runs.{IsAskDone, IsFetchDone, IsPerformed, IsServiceDone, IsTaskDone};
 
 use crate::ask::ask_port;
-use crate::draw::draw;
-use crate::explore::explore;
-use crate::failure::{Failure, Fault};
 use crate::fetch::{FetchEnd, fetch_port};
-use crate::folder::missing_folder;
 use crate::page_exploration::explore_with_page;
-use crate::progress::TerminalGauge;
-use crate::reasons::tell_path;
-use crate::request::Request;
-use crate::run::run;
-use crate::save::{out_file, peer, save};
-use crate::secret_file::secret_for;
 use crate::serve::serve_port;
-use crate::terminals::{Screen, Terminals};
 use dump_pump::{Outlet, WriteOutlet};
 use heap_console::{ColumnOutlet, Console, LineInlet, NewestLine, NotingOutlet, PromptInlet};
 use heapdbg_options::command_line::{path_option, settings};
 use heapdbg_options::line_words::borrow_words;
 use heapdbg_options::refusal::bad;
 use heapdbg_options::settings::{LineFault, Origin, Service, Settings, Target, Task};
+use private_tasks::draw::draw;
+use private_tasks::explore::explore;
+use private_tasks::run::run;
+use private_tasks::save::{out_file, peer, save};
+use private_tasks::{
+    Failure, Fault, Request, Screen, TerminalGauge, Terminals, missing_folder, secret_for,
+    tell_path,
+};
 use secret_word::Secret;
 use session_text::{Inlet, ReadInlet};
 use std::alloc::Global;

@@ -22,7 +22,7 @@ pub(crate) struct WatchedSeat<'a, L: Heap, R: Wait> {
 }
 
 impl<'a, L: Heap, R: Wait> Model for WatchedSeat<'a, L, R> {
-    ghost use Rattle.heap_server.specs.Stations.{Station};
+    ghost use Rattle.heap_server.specs.SeatStations.{Station};
 
     ghost Value = { Station };
 
@@ -55,7 +55,7 @@ impl<'a, L: Heap, R: Wait> WatchedSeat<'a, L, R> {
 
 impl<'a, L: Heap, R: Wait> Commands for WatchedSeat<'a, L, R> {
     ghost use Rattle.std.specs.Prelude.{true};
-    ghost use Rattle.heap_server.specs.Stations.{seat_acts, seat_answers};
+    ghost use Rattle.heap_server.specs.SeatStations.{seat_acts, seat_answers};
 
     ghost acts = { seat_acts L.config };
 

@@ -7,3 +7,4 @@ pub mod Chains
 pub mod NamedLines
 pub mod NoteLines
 pub mod Orders
+pub mod FileLines

@@ -5,6 +5,7 @@
 mod bookmarks;
 mod chain;
 mod event_name;
+mod file_line;
 mod name_words;
 mod named_line;
 mod note_line;
@@ -14,6 +15,7 @@ mod question;
 
 pub use bookmarks::Bookmarks;
 pub use chain::{Chain, Extent, chain_in};
+pub use file_line::{FileContent, FileLine, file_in};
 pub use name_words::slot_of;
 pub use named_line::question_in;
 pub use note_line::{name_set, place_opened, place_set};

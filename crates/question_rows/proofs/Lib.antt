@@ -1,7 +1,7 @@
 pub mod ListedPaths
 pub mod Totals
 pub mod RankedRows
-pub mod PathSteps
+pub mod PathTexts
 pub mod ChangedRows
 pub mod ClassRows
 pub mod Slots

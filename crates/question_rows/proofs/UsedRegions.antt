@@ -1,5 +1,5 @@
 -- The regions in use, and those that wait to be swept, one after another.
-use Rattle.std.proofs.Common.{◌≡◌, ◌∙◌, ℕ, suc, ◌+◌, ◌<◌, ◌≤◌, Bool, true, false, cond, drop, List, [], ◌∷◌, ◌++◌, length, Option, Some, None, refl, sym, ap, ap₂}
+use Rattle.std.proofs.Common.{◌≡◌, ◌∙◌, ℕ, zero, suc, ◌+◌, ◌<◌, ◌≤◌, Bool, true, false, cond, drop, get_or, List, [], ◌∷◌, ◌++◌, length, Option, Some, None, refl, sym, ap, ap₂}
 use Rattle.std.specs.Prelude.{codes, filter, is_some, option_map, unwrap_or, if◌then◌else◌}
 use Rattle.std.specs.Option.{option_map_or}
 use Rattle.std.specs.List.{cons_option, enumerate_from, filter_map, range_with_len}
@@ -9,7 +9,6 @@ use Rattle.heap_world.specs.Live.{cells_of}
 use Rattle.heap_world.specs.Regions.{Region, Empty, UsedRegion, used_at, used_part}
 use Rattle.heap_world.specs.State.{HeapState}
 use Rattle.heap_mark.specs.MarkSteps.{pending_regions}
-use Rattle.heap_mark.proofs.UnmarkedCounts.{region_read}
 use Rattle.heap_questions.proofs.Passing.{one_more_number}
 use Rattle.session_text.specs.Replies.{and_number, line}
 use Rattle.question_rows.proofs.ClassRows.{joined}
@@ -75,6 +74,12 @@ waiting_all regions = refl
 
 abbrev number_if : ℕ → Option UsedRegion → Option ℕ
 number_if r x = option_map_or (λ (u : UsedRegion). if u.pending then Some r else None) x None
+
+region_read : (regions : List Region) (r : ℕ) → used_part (get_or regions r Empty) ≡ used_at regions r
+unfolding used_at
+region_read [] r = refl
+region_read (x ∷ xs) zero = refl
+region_read (x ∷ xs) (suc r) = region_read xs r
 
 one_read : (regions : List Region) (r : ℕ) → r < length regions → waiting_from regions r ≡ length (cons_option (number_if r (used_at regions r)) (waiting (r + 1) (drop (r + 1) regions)))
 one_read regions r lt =

@@ -1,11 +1,12 @@
 -- The text of `paths`.
-use Rattle.std.specs.Prelude.{◌≡◌, ℕ, List, [], ◌∷◌, ◌++◌, flat_map, length, option_and_then, slice_get, IsSome, Option, Some, None}
+use Rattle.std.specs.Prelude.{◌≡◌, ℕ, List, [], ◌∷◌, ◌++◌, flat_map, length, slice_get, Option, Some, None}
 use Rattle.std.specs.Option.{option_map_or}
 use Rattle.hprof_text.specs.Image.{DumpedObject, Image}
-use Rattle.heap_questions.specs.Graph.{followed, object_with}
+use Rattle.heap_questions.specs.Graph.{object_with}
 use Rattle.heap_questions.specs.PathsApart.{AreFirstPaths, Route}
+use Rattle.heap_questions.specs.declared.paths.Path.{Path}
 use Rattle.question_words.specs.Moments.{no_object_text, unreachable_text}
-use Rattle.question_rows.specs.Paths.{root_text, step_texts}
+use Rattle.question_rows.specs.Paths.{path_rows, root_text, step_texts}
 use Rattle.question_words.specs.Rows.{count_text}
 
 -- the rows of a path, as `path` has them
@@ -14,16 +15,15 @@ way_text image p =
     option_map_or (λ y. root_text p.register y ++ step_texts image y p.slots)
     (slice_get image.registers p.register) []
 
--- the slots of a path lead on from what its register names
-abbrev pub LeadsOn : Image → Route → Type 0
-LeadsOn image p =
-    IsSome (option_and_then (λ y. followed image y p.slots) (slice_get image.registers p.register))
-
 -- the rows of each path, and how many paths there are
 abbrev pub ways_text : Image → List Route → List ℕ
 ways_text image paths = flat_map (way_text image) paths ++ count_text (length paths)
 
--- the same; without a path, that no register reaches the object
+-- the same of paths with their ids
+abbrev pub list_text : List Path → List ℕ
+list_text paths = flat_map path_rows paths ++ count_text (length paths)
+
+-- the same of routes; without one, that no register reaches the object
 abbrev pub paths_text : Image → List Route → List ℕ
 paths_text image [] = unreachable_text
 paths_text image (p ∷ ps) = ways_text image (p ∷ ps)

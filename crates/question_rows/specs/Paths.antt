@@ -3,11 +3,15 @@ use Rattle.std.specs.Prelude.{◌≡◌, ◌⊎◌, ℕ, List, [], ◌∷◌, �
 use Rattle.std.specs.Option.{option_map_or}
 use Rattle.hprof_text.specs.Image.{DumpedObject, Image}
 use Rattle.heap_questions.specs.Graph.{IsFirstPath, IsPathTo, IsShortest, IsUnreached, named, object_with}
+use Rattle.heap_questions.specs.declared.paths.Hop.{Hop}
+use Rattle.heap_questions.specs.declared.paths.Path.{Path}
 use Rattle.session_text.specs.Replies.{and_number, line}
 use Rattle.question_words.specs.Ids.{and_id}
 use Rattle.question_words.specs.Moments.{no_object_text, unreachable_text}
 use Rattle.question_rows.specs.Referrers.{and_register}
 use Rattle.question_words.specs.Rows.{count_text}
+use Rattle.question_words.specs.declared.rows.Unanswered.{Unanswered}
+use Rattle.question_words.specs.declared.rows.Unanswered.TheVariants.{NoObject, Unreachable}
 
 -- the line of register r, which names y
 unfoldable pub root_text : ℕ → ℕ → List ℕ
@@ -32,6 +36,28 @@ route_text image r y slots =
 abbrev pub IsRouteText : Image → ℕ → List ℕ → List ℕ → Type 0
 IsRouteText image r slots text =
     (y : ℕ) × (slice_get image.registers r ≡ Some y) × (text ≡ route_text image r y slots)
+
+-- ---- a path with its ids
+
+-- the lines of these steps, of which the first goes on from y
+abbrev pub hop_texts : ℕ → List Hop → List ℕ
+hop_texts y [] = []
+hop_texts y (h ∷ hs) = step_text y h.slot h.to ++ hop_texts h.to hs
+
+-- the rows of a path
+abbrev pub path_rows : Path → List ℕ
+path_rows p = root_text p.register p.start ++ hop_texts p.start p.hops.items
+
+-- its lines
+abbrev pub path_text : Path → List ℕ
+path_text p = path_rows p ++ count_text (length p.hops.items)
+
+-- why no path leads to an object: it isn't there, or no register reaches it
+abbrev pub why_none : Option DumpedObject → Unanswered
+why_none None = NoObject
+why_none (Some o) = Unreachable
+
+-- ---- the answer
 
 -- of all shortest paths to x the first by register, then by slot; or no register reaches x
 abbrev pub IsFoundText : ℕ → Image → List ℕ → Type 0

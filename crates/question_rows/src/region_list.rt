@@ -8,7 +8,7 @@ ghost use Rattle.question_rows.specs.RegionLists.{IsRegionsText, and_objects, co
 
 use heap_class::Refusal;
 use heap_questions::{RegionCounts, count_region};
-use heap_region::{Regions, Storage};
+use heap_region::{RegionView, Regions};
 use heap_trail::Machine;
 use question_words::{Unanswered, push_count, push_number, push_row, push_words};
 use std::alloc::{AllocError, Global};
@@ -40,7 +40,7 @@ fn push_regions(text: &mut Vec<u8>, regions: &Regions) -> Result<u64, AllocError
     let mut count = 0;
     for region in 0..regions.count() {
         if let Some(storage) = regions.region(region) {
-            push_region(text, regions, region, storage)?;
+            push_region(text, regions, region, &storage)?;
             count += 1;
         }
     }
@@ -52,7 +52,7 @@ fn push_region(
     text: &mut Vec<u8>,
     regions: &Regions,
     region: u64,
-    storage: &Storage,
+    storage: &RegionView<'_>,
 ) -> Result<(), AllocError>
     requires { used_at regions.now.regions region ≡ Some storage.now }
     ensures { Appends (counted_text region storage.now) text.old.items text.new.items result }

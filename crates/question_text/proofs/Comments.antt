@@ -23,9 +23,9 @@ use Rattle.question_text.specs.Comments.{is_comment, is_comment_words, unasked_t
 use Rattle.question_text.specs.Help.{help_or_bad}
 use Rattle.question_grammar.specs.NamedLines.{named_question_of_words, named_rules, question_in}
 use Rattle.question_grammar.specs.Questions.{past_rules, question_of_words, question_rules}
-use Rattle.question_text.specs.Sessions.{AskingAnswers}
+use Rattle.question_text.specs.Sessions.{AskingAnswers, IsUnnoted}
 use Rattle.question_text.proofs.NewWords.{bad_words}
-use Rattle.question_text.proofs.NotedLines.{SetsNothing, answered_alone}
+use Rattle.question_text.proofs.NotedLines.{answered_alone}
 
 -- the first byte of the first word
 first_byte : (b : ℕ) (v : List ℕ) → bytes_eq (take 1 (b ∷ v)) (codes "#") ≡ true → b ≡ 35
@@ -104,7 +104,7 @@ names_none v [] = refl
 names_none v (w ∷ []) = refl
 names_none v (w ∷ u ∷ ws) = refl
 
-sets_none : (bm : Bookmarks) (l : List ℕ) → is_comment l ≡ true → SetsNothing bm l
+sets_none : (bm : Bookmarks) (l : List ℕ) → is_comment l ≡ true → IsUnnoted bm l
 sets_none bm l e = record {
   opened = of_comment (place_opened_by bm) (opens_none bm) (words_of_line l) e;
   place = of_comment (place_set_by bm) (places_none bm) (words_of_line l) e;

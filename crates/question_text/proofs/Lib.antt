@@ -2,11 +2,14 @@ pub mod NewWords
 pub mod NewEvents
 pub mod NewChains
 pub mod NotedLines
+pub mod NewFiles
 pub mod Comments
 pub mod HelpForms
+pub mod HelpRows
 pub mod KeptPins
 pub mod NotedSteps
 pub mod QuestionsLeftOut
 pub mod KeptRedos
 pub mod JoinedDump
+pub mod PutDumps
 pub mod TopRows

@@ -24,7 +24,7 @@ use Rattle.question_text.specs.declared.asking.Asking.{Asking}
 use Rattle.question_text.specs.Answers.{IsAnswerOfLine}
 use Rattle.question_text.specs.Help.{help_of, help_of_words}
 use Rattle.question_text.specs.Notes.{NotesBy}
-use Rattle.question_text.specs.Sessions.{AnswersLine, AskingAnswers, IsAlone, OpensOrAnswers}
+use Rattle.question_text.specs.Sessions.{AnswersLine, AskingAnswers, IsAlone, IsUnnoted, OpensOrAnswers}
 use Rattle.question_text.proofs.NewEvents.{line_asks_nothing}
 use Rattle.question_text.proofs.NewWords.{bad_words, same_by_numbers}
 
@@ -52,16 +52,16 @@ said_behind key ws says a (Some v) is e = (v, behind_is key ws v is, e)
 
 -- ---- words that are no others
 
-record AreAlone (bm : Bookmarks) (state : HeapState) (ws : List (List ℕ)) : Type 0 where
-  command : command_of_words ws ≡ Bad
-  order : order_of_words bm ws ≡ None
-  event : event_of_words state ws ≡ None
-  question : question_of_words bm ws ≡ None
-  named : named_question_of_words bm state ws ≡ None
-  chain : chain_of_words bm ws ≡ None
-  help : help_of_words ws ≡ None
+pub record AreAlone (bm : Bookmarks) (state : HeapState) (ws : List (List ℕ)) : Type 0 where
+  pub command : command_of_words ws ≡ Bad
+  pub order : order_of_words bm ws ≡ None
+  pub event : event_of_words state ws ≡ None
+  pub question : question_of_words bm ws ≡ None
+  pub named : named_question_of_words bm state ws ≡ None
+  pub chain : chain_of_words bm ws ≡ None
+  pub help : help_of_words ws ≡ None
 
-alone_line : (bm : Bookmarks) (state : HeapState) (l : List ℕ) (ws : List (List ℕ)) → words_of_line l ≡ ws → AreAlone bm state ws → IsAlone bm state l
+pub alone_line : (bm : Bookmarks) (state : HeapState) (l : List ℕ) (ws : List (List ℕ)) → words_of_line l ≡ ws → AreAlone bm state ws → IsAlone bm state l
 alone_line bm state l ws is a =
     let b : AreAlone bm state (words_of_line l) = subst (AreAlone bm state) (sym is) a in record {
       command = bad_words l b.command;
@@ -143,12 +143,7 @@ order_opens_none bm state l o e =
     none_of (place_opened bm l) (λ place t. let clash : None ≡ Some o = sym (open_alone bm state l place t).order ∙ e in absurd (cc clash))
 
 -- a line that isn't alone opens no pin by a name, and sets nothing
-pub record SetsNothing (bm : Bookmarks) (l : List ℕ) : Type 0 where
-  pub opened : place_opened bm l ≡ None
-  pub place : place_set bm l ≡ None
-  pub name : name_set l ≡ None
-
-sets_nothing : (bm : Bookmarks) (state : HeapState) (l : List ℕ) → (IsAlone bm state l → ⊥) → SetsNothing bm l
+sets_nothing : (bm : Bookmarks) (state : HeapState) (l : List ℕ) → (IsAlone bm state l → ⊥) → IsUnnoted bm l
 sets_nothing bm state l h = record {
   opened = none_of (place_opened bm l) (λ place t. h (open_alone bm state l place t));
   place = none_of (place_set bm l) (λ to t. h (place_alone bm state l to t));
@@ -167,17 +162,17 @@ notes_nothing None None l m acts b text b' none e h = h
 abbrev pub IsAnsweredAlone : List ℕ → List ℕ → Asking → Asking → Type 0
 IsAnsweredAlone l text c d = IsAnswerOfLine l c.local.machine None c.bookmarks text × (d ≡ c)
 
-same_asking : (order : Option Order) (l text : List ℕ) (c d : Asking) → order ≡ None → SetsNothing c.bookmarks l → AnswersLine order l c text d → IsAnsweredAlone l text c d
+same_asking : (order : Option Order) (l text : List ℕ) (c d : Asking) → order ≡ None → IsUnnoted c.bookmarks l → AnswersLine order l c text d → IsAnsweredAlone l text c d
 same_asking (Some o) l text c d none sets a = absurd (cc none)
 same_asking None l text c d none sets a =
     let n = notes_nothing (place_set c.bookmarks l) (name_set l) l c.local.machine None c.bookmarks text d.bookmarks sets.place sets.name a.0 in
     (n.0, a.1 ∙ ap (λ (b : Bookmarks). record c { bookmarks = b }) n.1)
 
-same_opening : (opened : Option ℕ) (l text : List ℕ) (c d : Asking) → opened ≡ None → order_in c.bookmarks c.local.machine.trail.current l ≡ None → SetsNothing c.bookmarks l → OpensOrAnswers opened l c text d → IsAnsweredAlone l text c d
+same_opening : (opened : Option ℕ) (l text : List ℕ) (c d : Asking) → opened ≡ None → order_in c.bookmarks c.local.machine.trail.current l ≡ None → IsUnnoted c.bookmarks l → OpensOrAnswers opened l c text d → IsAnsweredAlone l text c d
 same_opening (Some place) l text c d opened none sets a = absurd (cc opened)
 same_opening None l text c d opened none sets a = same_asking (order_in c.bookmarks c.local.machine.trail.current l) l text c d none sets a
 
-pub answered_alone : (l text : List ℕ) (c d : Asking) → order_in c.bookmarks c.local.machine.trail.current l ≡ None → SetsNothing c.bookmarks l → AskingAnswers l c text d → IsAnsweredAlone l text c d
+pub answered_alone : (l text : List ℕ) (c d : Asking) → order_in c.bookmarks c.local.machine.trail.current l ≡ None → IsUnnoted c.bookmarks l → AskingAnswers l c text d → IsAnsweredAlone l text c d
 answered_alone l text c d none sets a = same_opening (place_opened c.bookmarks l) l text c d sets.opened none sets a.0
 
 -- no order is asked, if the line asks something else

@@ -11,7 +11,7 @@ pub record LineForm : Type 0 where
   pub example : List ℕ
 
 -- the form of a line
-abbrev form_of : List ℕ → List ℕ → List ℕ → LineForm
+abbrev pub form_of : List ℕ → List ℕ → List ℕ → LineForm
 form_of key form example = record { key = key; form = form; example = example }
 
 -- questions, `collect`, `forward`, `at`, `name` and `help`
@@ -97,9 +97,13 @@ all_forms = write_forms
 abbrev pub help_row : List ℕ → List ℕ
 help_row words = line (codes "row " ++ words)
 
+-- a row for each of these lines
+abbrev pub help_rows : List LineForm → List ℕ
+help_rows forms = flat_map (λ f. help_row f.form) forms
+
 -- the answer of `help`: a row for each line
 unfoldable pub help_text : List ℕ
-help_text = flat_map (λ f. help_row f.form) all_forms ++ codes "ok\n"
+help_text = help_rows all_forms ++ codes "ok\n"
 
 -- the answer of `help` and the keyword of a line: its form and an example
 unfoldable pub form_text : LineForm → List ℕ

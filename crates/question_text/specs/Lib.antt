@@ -1,5 +1,6 @@
 pub mod DominatorRows
 pub mod Help
+pub mod FileHelp
 pub mod Comments
 pub mod ShownChains
 pub mod Answers

@@ -26,7 +26,7 @@ use Rattle.question_text.specs.Notes.{NotesLine}
 use Rattle.question_grammar.specs.declared.order.Order.{Order}
 use Rattle.heap_orders.specs.Collections.{TakenStep}
 use Rattle.question_grammar.specs.NamedLines.{question_in}
-use Rattle.question_grammar.specs.NoteLines.{place_opened}
+use Rattle.question_grammar.specs.NoteLines.{name_set, place_opened, place_set}
 use Rattle.question_grammar.specs.Orders.{order_in}
 use Rattle.question_text.specs.Help.{help_of}
 use Rattle.heap_orders.specs.Redos.{noted, with_steps, GoesForward}
@@ -91,6 +91,12 @@ pub record IsAlone (b : Bookmarks) (state : HeapState) (l : List ℕ) : Type 0 w
   pub question : question_in b state l ≡ None
   pub chain : chain_of b l ≡ None
   pub help : help_of l ≡ None
+
+-- no session notes a line or opens a pin by it
+pub record IsUnnoted (b : Bookmarks) (l : List ℕ) : Type 0 where
+  pub opened : place_opened b l ≡ None
+  pub place : place_set b l ≡ None
+  pub name : name_set l ≡ None
 
 -- ---- a session without its questions
 

@@ -3,7 +3,7 @@ ghost use Rattle.std.specs.Prelude.{◌≡◌};
 ghost use Rattle.std.specs.Option.{option_map};
 ghost use Rattle.session_grammar.specs.Grammar.{words_of_line};
 ghost use Rattle.session_text.specs.Replies.{line_answer_text};
-ghost use Rattle.question_text.specs.Help.{act_forms, all_forms, form_with, help_about, help_of, help_or_bad, help_text, question_forms};
+ghost use Rattle.question_text.specs.Help.{act_forms, all_forms, form_with, help_about, help_of, help_or_bad, help_rows, help_text, question_forms};
 
 use session_grammar::by_word;
 use session_grammar::words::{Words, is_word};
@@ -108,6 +108,15 @@ pub fn all_help() -> &'static [u8]
         row objects [AT] [CLASS [SLOT VALUE]]\nrow values [AT] CLASS SLOT\nrow referrers [AT] ID\nrow path [AT] ID\nrow paths [AT] ID N\nrow retained [AT] ID\nrow dominators [AT] [ID] [N]\nrow dominator [AT] ID\nrow show [AT] ID[.FIELD ..] [DEPTH | FROM N]\n\
         row born [@PLACE] ID\nrow wrote [@PLACE] ID SLOT\nrow watch ID SLOT [@PLACE]\nrow writes CLASS SLOT [@PLACE [@PLACE]]\nrow when (CLASS SLOT VALUE | count CLASS N) [@PLACE [@PLACE]]\nrow dropped [@PLACE] ID\nrow life ID\nrow history [@PLACE] N\nrow cycles\nrow pins\nrow cells\nrow regions\nrow status\nrow collect\nrow forward N|@P\nrow at -|@P\nrow name WORD\n\
         row help WORD\nok\n"
+}
+
+// Returns the rows of what `help` answers, without its last line. Takes no memory.
+#[tactic(auto, unfolding(crate::specs::Help::help_text), using(crate::proofs::HelpRows::rows_before_ok, crate::proofs::HelpRows::ok_is_there))]
+pub(crate) fn help_rows() -> &'static [u8]
+    ensures { result.now ≡ help_rows all_forms }
+{
+    let text = all_help();
+    &text[..text.len() - 3]
 }
 
 // Returns the answer of a line that asks no question: that of `help`, if it asks for it. Takes no memory.

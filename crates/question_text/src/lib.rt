@@ -23,6 +23,8 @@ ghost use Rattle.question_text.specs.Comments.{is_comment};
 ghost use Rattle.question_text.specs.Help.{HasForm, help_of};
 ghost use Rattle.question_grammar.specs.Bookmarks.{Bookmarks};
 ghost use Rattle.question_grammar.specs.Chains.{chain_of};
+ghost use Rattle.question_grammar.specs.FileLines.{file_of};
+ghost use Rattle.question_grammar.specs.declared.file_line.FileContent.{FileContent};
 ghost use Rattle.question_grammar.specs.NamedLines.{question_in};
 ghost use Rattle.question_grammar.specs.NoteLines.{name_set, place_opened, place_set};
 ghost use Rattle.question_grammar.specs.declared.order.Order.{Order};
@@ -31,7 +33,7 @@ ghost use Rattle.question_words.specs.Moments.{refused_text};
 ghost use Rattle.question_grammar.specs.Orders.{order_in};
 ghost use Rattle.heap_orders.specs.Redos.{IsBackAt, IsRedoOf, Redo, StopsBefore, no_redo};
 ghost use Rattle.question_grammar.specs.Questions.{QuestionRule, question_of, question_rules};
-ghost use Rattle.question_text.specs.Sessions.{AnswersAlone, AskingActs, AskingAnswers, IsAlone, IsDriven, NoneOrders};
+ghost use Rattle.question_text.specs.Sessions.{AnswersAlone, AskingActs, AskingAnswers, IsAlone, IsDriven, IsUnnoted, NoneOrders};
 ghost use Rattle.session_text.specs.Answers.{AnswersCommand};
 ghost use Rattle.session_text.specs.declared.limits.SessionLimits.{SessionLimits};
 ghost use Rattle.session_text.specs.Talks.{AnswersAll};
@@ -40,6 +42,7 @@ mod answers;
 mod asking;
 mod comment;
 mod dominator_rows;
+mod file_forms;
 mod help;
 mod notes;
 mod session;
@@ -49,10 +52,11 @@ mod watch;
 
 pub use answers::{answer, answer_line};
 pub use asking::Asking;
+pub use file_forms::{file_help, file_keyword_help, file_rows};
 pub use help::{all_help, keyword_help, question_help};
 pub use notes::note_line;
 pub use session::serve_asking;
-pub use state_dump::dump_at;
+pub use state_dump::{DumpCut, dump_at, first_piece, put_pieces};
 pub use watch::{BAD_COMMAND, Watch};
 
 /// States that no line that asks a question, by numbers alone, by names of classes and fields, or along fields, is one of the grammar
@@ -92,6 +96,15 @@ pub fn notes_are_new()
         → place_set b l ≡ Some to → IsAlone b state l }
     ensures names { (b : Bookmarks) (state : HeapState) (l w : List ℕ)
         → name_set l ≡ Some w → IsAlone b state l }
+{}
+
+/// States the same of the lines that write files, `write [AT] PATH` and `draw PATH`: no session notes them or opens a pin by them
+/// either.
+pub fn file_lines_are_new()
+    ensures alone { (b : Bookmarks) (state : HeapState) (l path : List ℕ) (content : FileContent)
+        → file_of b l ≡ Some (content, path) → IsAlone b state l }
+    ensures unnoted { (b : Bookmarks) (l path : List ℕ) (content : FileContent)
+        → file_of b l ≡ Some (content, path) → IsUnnoted b l }
 {}
 
 /// States the same of a comment: a line whose first word begins with `#`.

@@ -1,27 +1,29 @@
 //! What a session with questions shows to readers beside it.
 use heap_trail::{Machine, Reply};
 use session_text::LineAnswer;
-use std::sync::atomic::{AtomicU64, Ordering};
+use std::sync::atomic::{AtomicBool, AtomicU64, Ordering};
 
 /// The number that stands for `bad command`, beside those of refusals.
 pub const BAD_COMMAND: u64 = 1_000;
 
-/// The place of a session's machine, its oldest retained place, and the newest line that was refused, for readers beside the
-/// session such as a prompt.
+/// The place of a session's machine, its oldest retained place, the newest line that was refused, and whether lines of the session
+/// write files, for readers beside the session such as a prompt.
 #[derive(Drop)]
 pub struct Watch {
     place: AtomicU64,
     oldest: AtomicU64,
     refusal: AtomicU64,
+    has_files: AtomicBool,
 }
 
 impl Watch {
-    /// Creates a watch at place 0, with no refusal.
+    /// Creates a watch at place 0, with no refusal, of a session whose lines write no files.
     pub fn new() -> Watch {
         Watch {
             place: AtomicU64::new(0),
             oldest: AtomicU64::new(0),
             refusal: AtomicU64::new(0),
+            has_files: AtomicBool::new(false),
         }
     }
 
@@ -39,6 +41,16 @@ impl Watch {
     /// asked last.
     pub fn take_refusal(&self) -> u64 {
         self.refusal.swap(0, Ordering::SeqCst)
+    }
+
+    /// Tells whether lines of the session write files.
+    pub fn has_files(&self) -> bool {
+        self.has_files.load(Ordering::SeqCst)
+    }
+
+    /// Notes that lines of the session write files.
+    pub fn note_files(&self) {
+        self.has_files.store(true, Ordering::SeqCst);
     }
 
     // Notes the places of a machine.

@@ -77,7 +77,7 @@ fn dead_in(regions: &Regions, region: u64) -> u64
     ensures few { result ≤ cell_limit }
 {
     match regions.region(region) {
-        Some(storage) => count_region(storage).dead,
+        Some(storage) => count_region(&storage).dead,
         None => 0,
     }
 }
@@ -129,7 +129,7 @@ fn dead_before(undo: &Undo, now: u64) -> u64
     match undo {
         Undo::Finish { .. } => 0,
         Undo::Sweep { dead, .. } => now + dead.len(),
-        Undo::Reclaim { storage, .. } => now + count_region(storage).dead,
+        Undo::Reclaim { storage, .. } => now + count_region(&storage.view()).dead,
         _ => now,
     }
 }

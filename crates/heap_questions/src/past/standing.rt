@@ -44,7 +44,7 @@ pub(crate) fn stood_before(left: &Undo, at: ObjRef, now: bool) -> bool
         }
         Undo::Reclaim { region, storage } => {
             if at.region == *region {
-                storage.has_object(at.cell as u64)
+                storage.view().has_object(at.cell as u64)
             } else {
                 now
             }
@@ -126,7 +126,7 @@ pub(crate) fn size_before(left: &Undo, region: u64, now: u64) -> u64
             storage,
         } => {
             if *taken as u64 == region {
-                size_of(storage)
+                size_of(&storage.view())
             } else {
                 now
             }

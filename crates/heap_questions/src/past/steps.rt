@@ -11,7 +11,7 @@ ghost use Rattle.heap_trail.specs.Trail.{retained, state_ago};
 
 use crate::past::events::{PastEvent, event_with};
 use heap_class::{ObjRef, Refusal};
-use heap_region::{OBJECT_BASE, REGION_WORDS, Storage};
+use heap_region::{OBJECT_BASE, REGION_WORDS, RegionView};
 use heap_step::Undo;
 use heap_trail::Machine;
 use heap_world::World;
@@ -25,7 +25,7 @@ pub struct PastStep {
 }
 
 // Returns the size of a region's cells.
-pub(crate) fn size_of(storage: &Storage) -> u64
+pub(crate) fn size_of(storage: &RegionView<'_>) -> u64
     requires { 0 < length storage.now.cells }
     ensures value { result ≡ storage_cell_size storage.now }
     ensures limit { result ≤ heap_words }
@@ -42,7 +42,7 @@ pub(crate) fn size_at(world: &World, region: u64) -> u64
     ensures limit { result ≤ heap_words }
 {
     match world.regions().region(region) {
-        Some(storage) => size_of(storage),
+        Some(storage) => size_of(&storage),
         None => 0,
     }
 }
@@ -113,7 +113,7 @@ fn undo_size(left: &Undo, sizes: &mut Vec<u64>)
     ensures { sizes.new.items ≡ sizes_before left.now sizes.old.items }
 {
     if let Undo::Reclaim { region, storage } = left {
-        sizes[*region as usize] = size_of(storage);
+        sizes[*region as usize] = size_of(&storage.view());
     }
 }
 

@@ -1,6 +1,8 @@
-use Rattle.std.proofs.Common.{◌∙◌, List, length, map, ap, subst, arith}
-use Rattle.std.specs.Prelude.{IfSome, Option}
+use Rattle.std.proofs.Common.{◌∙◌, List, length, map, ap, subst, sym, arith}
+use Rattle.std.specs.Prelude.{All, IfSome, Option}
 use Rattle.std.proofs.lemmas.List.{length_push, map_push}
+use Rattle.std.proofs.lemmas.List.Elements.{All-push}
+use Rattle.heap_questions.specs.Hops.{TellsIds}
 use Rattle.heap_questions.specs.PathsApart.{IsNextPath, route_of}
 use Rattle.heap_questions.specs.declared.paths.Path.{Path}
 use Rattle.heap_questions.proofs.PathStarts.{next_more}
@@ -15,8 +17,10 @@ loop-alloc-preserved g c =
     let slice = c.as_slice.result.now in
     let added = c.in_ok-push-in-Some.ensures.items in
     let found = subst (λ (o : Option Path). IfSome o (λ p. IsNextPath image (map route_of slice) x (route_of p))) c.in-Some.is c.in_ok-path.ensures.next in
+    let told = subst (λ (o : Option Path). IfSome o (TellsIds image)) c.in-Some.is c.in_ok-path.ensures.ids in
     let here = subst (λ (ps : List Path). IsNextPath image (map route_of ps) x (route_of path)) c.as_slice.ensures.value found in
     record {
       next = next_more image x (map route_of old) (map route_of c.push.new.self.items) (route_of path) (ap (map route_of) added ∙ map_push route_of old path) c.loop-alloc.invariant.next here;
       few = omega (arith, ap length added, length_push old path, c.loop-alloc-test.true);
+      ids = subst (All (TellsIds image)) (sym added) (All-push (TellsIds image) old path c.loop-alloc.invariant.ids told);
     }

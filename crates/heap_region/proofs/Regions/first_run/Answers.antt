@@ -5,4 +5,4 @@ use Rattle.heap_region.proofs.Regions.first_run.Goals as goal
 
 pub returns-clause-value : goal.returns-clause-value
 unfolding first_run
-returns-clause-value c = rw (← c.self.view_is, length-map c.self.inside.slots.items shown_region) (rw c.deref.ensures.value at c.first_run_in.ensures.value)
+returns-clause-value c = rw (← c.self.view_is, length-map c.self.inside.slots shown_region) c.first_run.ensures.value

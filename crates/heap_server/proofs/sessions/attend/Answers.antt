@@ -1,5 +1,5 @@
 use Rattle.std.proofs.Common.{true, false, ◌∙◌, ap}
-use Rattle.heap_server.specs.Stations.{Station}
+use Rattle.seat_session.specs.SeatStations.{Station}
 use Rattle.heap_server.proofs.ClientSessions.{session_on_terms_is_attended}
 use Rattle.heap_server.proofs.sessions.attend.Goals as goal
 

@@ -1,6 +1,6 @@
 use Rattle.std.proofs.Common.{[], ◌∙◌, ap, subst}
-use Rattle.heap_server.specs.Stations.{Station}
-use Rattle.heap_server.specs.StayingSeats.{ClosesEach, StayingStation}
+use Rattle.seat_session.specs.SeatStations.{Station}
+use Rattle.seat_session.specs.StayingSeats.{ClosesEach, StayingStation}
 use Rattle.heap_server.proofs.ClientSessions.{staying_session_is_attended}
 use Rattle.heap_server.proofs.sessions.attend_staying.Goals as goal
 

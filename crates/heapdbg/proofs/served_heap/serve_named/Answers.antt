@@ -1,7 +1,7 @@
 use Rattle.std.proofs.Common.{refl, sym, subst, ◌∙◌}
 use Rattle.session_text.specs.Limits.{session_limits}
 use Rattle.heap_server.specs.LockStates.{SeatModel}
-use Rattle.heapdbg.specs.Explorations.{has_area}
+use Rattle.private_tasks.specs.Explorations.{has_area}
 use Rattle.heapdbg.specs.ServedHeaps.{IsSeatLoaded}
 use Rattle.heapdbg.proofs.LoadedSeats.{used_seats_served}
 use Rattle.heapdbg.proofs.served_heap.serve_named.Goals as goal

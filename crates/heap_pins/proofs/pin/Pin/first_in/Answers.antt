@@ -11,8 +11,8 @@ pub returns-then-has_copy : goal.returns-then-has_copy
 returns-then-has_copy c = first_in_a_copy c.args.self.now c.args.world.now.regions c.args.region c.args.from c.first_kept.result (sym c.has_copy.ensures ∙ c.if-has_copy.true) c.first_kept.ensures
 
 pub returns-in-Some : goal.returns-in-Some
-returns-in-Some c = first_in_region c.args.self.now c.args.world.now.regions c.args.region c.args.from c.in-Some.storage.now c.first_of.result (not_some_copy_is_none (slice_index_or c.args.self.now.copies c.args.region None) (sym c.if-has_copy.ensures))
-    (subst (λ (s : RegionPool). used_at s.regions c.args.region ≡ Some c.in-Some.storage.now) c.regions.ensures c.in-Some.ensures) c.first_of.ensures
+returns-in-Some c = first_in_region c.args.self.now c.args.world.now.regions c.args.region c.args.from c.in-Some.storage c.first_of.result (not_some_copy_is_none (slice_index_or c.args.self.now.copies c.args.region None) (sym c.if-has_copy.ensures))
+    (subst (λ (s : RegionPool). used_at s.regions c.args.region ≡ Some c.in-Some.storage) c.regions.ensures c.in-Some.ensures) c.first_of.ensures
 
 pub returns-in-None : goal.returns-in-None
 returns-in-None c = none_in_unused_region c.args.self.now c.args.world.now.regions c.args.region c.args.from (not_some_copy_is_none (slice_index_or c.args.self.now.copies c.args.region None) (sym c.if-has_copy.ensures))

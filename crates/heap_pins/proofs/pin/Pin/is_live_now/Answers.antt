@@ -11,9 +11,9 @@ pub returns-in-Some : goal.returns-in-Some
 returns-in-Some c h =
     let blank = c.has_any.ensures c.if-has_any.false in (
       omega (arith, c.if-region-count.false, c.count.ensures.value, ap (λ (s : RegionPool). length s.regions) c.regions.ensures),
-      live_now_is_shown c.args.self.now c.args.world.now.regions c.args.region c.args.cell c.in-Some.storage.now
+      live_now_is_shown c.args.self.now c.args.world.now.regions c.args.region c.args.cell c.in-Some.storage
           (ap (λ (p : PinContents). slice_index_or p.copies c.args.region None) (sym c.self.view_is) ∙ blank.0)
           (ap (λ (p : PinContents). slice_index_or p.cells c.args.region []) (sym c.self.view_is) ∙ blank.1)
-          (subst (λ (s : RegionPool). used_at s.regions c.args.region ≡ Some c.in-Some.storage.now) c.regions-2.ensures c.in-Some.ensures)
+          (subst (λ (s : RegionPool). used_at s.regions c.args.region ≡ Some c.in-Some.storage) c.regions-2.ensures c.in-Some.ensures)
           (sym c.storage_state.ensures ∙ eqb-true c.storage_state.result 1 h),
     )

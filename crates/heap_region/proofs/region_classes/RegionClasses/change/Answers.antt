@@ -23,7 +23,7 @@ invariant_of-self c =
     let few = class_table_stays_short t c.args.region c.args.class c.self.invariant.0 in
     elim c.if-self-was.branch [
       | then-self-was w ↦
-          let found = subst (λ (xs : List ℕ). IsLowest xs c.args.was c.args.region w.lowest_from.result) w.deref.ensures.value w.lowest_from.ensures in
+          let found = subst (λ (xs : List ℕ). 1 ≤ c.args.was → IsLowest xs c.args.was c.args.region w.lowest_from.result) w.deref.ensures.value w.lowest_from.ensures.value in
           let almost = lowest_regions_almost_after_search t l c.args.region c.args.was c.args.class w.lowest_from.result c.self.invariant.1 under is c.ranges.was.fits c.self.told w.if-self-was.true found in
           let above = subst (λ (s : Inside). c.args.region < get_or s.lowest c.args.class 0) w.self-inside-is c.if-self-class.true in
           rw w.self-inside-is (few, changed_region_becomes_lowest t (set l c.args.was w.lowest_from.result) c.args.region c.args.class almost under c.ranges.class.fits (sized l c.args.was w.lowest_from.result c.self.told) above)
@@ -42,7 +42,7 @@ invariant_of-self-else-self-class c =
     let few = class_table_stays_short t c.args.region c.args.class c.self.invariant.0 in
     elim c.if-self-was.branch [
       | then-self-was w ↦
-          let found = subst (λ (xs : List ℕ). IsLowest xs c.args.was c.args.region w.lowest_from.result) w.deref.ensures.value w.lowest_from.ensures in
+          let found = subst (λ (xs : List ℕ). 1 ≤ c.args.was → IsLowest xs c.args.was c.args.region w.lowest_from.result) w.deref.ensures.value w.lowest_from.ensures.value in
           let almost = lowest_regions_almost_after_search t l c.args.region c.args.was c.args.class w.lowest_from.result c.self.invariant.1 under is c.ranges.was.fits c.self.told w.if-self-was.true found in
           let below = subst (λ (s : Inside). get_or s.lowest c.args.class 0 ≤ c.args.region) w.self-inside-is c.if-self-class.false in
           rw w.self-inside-is (few, lowest_regions_stay_after_change t (set l c.args.was w.lowest_from.result) c.args.region c.args.class almost under below)

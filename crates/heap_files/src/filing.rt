@@ -1,0 +1,124 @@
+//! Commands with questions, and lines that write files.
+ghost use Rattle.std.specs.Prelude.{◌≡◌};
+ghost use Rattle.session_text.specs.Replies.{line_answer_text};
+ghost use Rattle.question_text.specs.FileHelp.{file_help_of};
+ghost use Rattle.heap_files.specs.Filings.{FilingAnswers, HelpsOrAnswers, WritesFile};
+ghost use Rattle.heap_files.specs.Files.{written_text};
+
+use crate::files::{Unwritten, write_dump, write_picture, written_line};
+use crate::folder::Folder;
+use heap_step::IntoEvent;
+use heap_trail::{Action, Reply};
+use question_grammar::{FileContent, FileLine, file_in};
+use question_text::{Asking, file_help};
+use session_text::{Commands, LineAnswer};
+use std::alloc::Global;
+
+/// A private machine that acts on the lines of a session and answers questions, as `Asking` does, and writes files: the dump of a
+/// state by `write [AT] PATH`, and a picture of the current one by `draw PATH`.
+#[derive(Drop)]
+pub struct Filing<'a, F> {
+    /// The machine and what its session notes.
+    pub asking: Asking<'a>,
+    /// The folder in which files are made.
+    pub folder: F,
+    /// The time in the header of each dump, in milliseconds since 1970.
+    pub time: u64,
+}
+
+impl<'a, F: Folder> Filing<'a, F> {
+    /// Creates commands that make files in a folder, and tells readers beside the session that its lines write files.
+    pub fn new(asking: Asking<'a>, folder: F, time: u64) -> Filing<'a, F>
+        ensures { result ≡ record { asking = asking.entry; folder = folder; time = time } }
+    {
+        asking.watch.note_files();
+        Filing {
+            asking,
+            folder,
+            time,
+        }
+    }
+
+    // Answers a line that the grammar of sessions doesn't know.
+    fn answer_line(&mut self, alloc: Global, line: &[u8]) -> LineAnswer
+        ensures { FilingAnswers F.acts line.now self.old (line_answer_text result) self.new }
+    {
+        match file_in(&self.asking.bookmarks, line) {
+            Some(file) => self.answer_file(alloc, file),
+            None => self.answer_other(alloc, line),
+        }
+    }
+
+    // Answers a line that writes a file.
+    fn answer_file(&mut self, alloc: Global, file: FileLine<'_>) -> LineAnswer
+        ensures file { WritesFile F.acts file.entry.content file.entry.path.now self.old
+            (line_answer_text result) self.new.folder }
+        ensures others { self.new ≡ record self.old { folder = self.new.folder } }
+    {
+        let written = self.write_file(alloc, file);
+        let answer = written_line(written);
+        self.asking
+            .watch
+            .note_answer(&self.asking.local.machine, &answer);
+        answer
+    }
+
+    // Writes what a line asks for to a file. Returns its size.
+    fn write_file(&mut self, alloc: Global, file: FileLine<'_>) -> Result<u64, Unwritten>
+        ensures file { WritesFile F.acts file.entry.content file.entry.path.now self.old
+            (written_text result) self.new.folder }
+        ensures others { self.new ≡ record self.old { folder = self.new.folder } }
+    {
+        let time = self.time;
+        let path = file.path;
+        match file.content {
+            FileContent::DumpOf(at) => write_dump(
+                alloc,
+                &self.asking.local.machine,
+                at,
+                time,
+                &mut self.folder,
+                path,
+            ),
+            FileContent::Picture => write_picture(
+                alloc,
+                &self.asking.local.machine,
+                &mut self.folder,
+                path,
+            ),
+        }
+    }
+
+    // Answers a line that writes no file.
+    fn answer_other(&mut self, alloc: Global, line: &[u8]) -> LineAnswer
+        ensures { HelpsOrAnswers (file_help_of line.now) line.now self.old
+            (line_answer_text result) self.new }
+    {
+        match file_help(alloc, line) {
+            Some(answer) => answer,
+            None => self.asking.answer_unknown(alloc, line),
+        }
+    }
+}
+
+impl<F: Folder> Commands for Filing<'_, F> {
+    ghost use Rattle.heap_files.specs.Filings.{FilingActs, FilingAnswers};
+
+    ghost acts = { FilingActs };
+
+    ghost unknown = { FilingAnswers F.acts };
+
+    #[inline(always)]
+    fn act(&mut self, action: Action) -> Reply {
+        self.asking.act(action)
+    }
+
+    #[inline(always)]
+    fn step<E: IntoEvent>(&mut self, event: E) -> Reply {
+        self.asking.step(event)
+    }
+
+    fn answer_unknown(&mut self, alloc: Global, line: &[u8]) -> LineAnswer {
+        self.answer_line(alloc, line)
+    }
+}

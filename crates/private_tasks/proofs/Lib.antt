@@ -1,0 +1,4 @@
+pub mod Hindrances
+pub mod SavedRuns
+pub mod RunDumps
+pub mod RunPairs

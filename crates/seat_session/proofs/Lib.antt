@@ -1,0 +1,4 @@
+pub mod Acts
+pub mod DumpTexts
+pub mod HeldSteps
+pub mod OpenPins

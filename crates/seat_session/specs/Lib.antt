@@ -1,0 +1,5 @@
+pub mod DumpAnswers
+pub mod JoinedActs
+pub mod JoinedAnswers
+pub mod SeatStations
+pub mod StayingSeats

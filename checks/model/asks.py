@@ -46,6 +46,7 @@ WANTED = {
     "status": ("ok",),
     "collect": ("ok",),
     "rewind": ("ok place", "ok by a place's name", "no 24"),
+    "class": (*BY_NAME, "no 2", "no 3", "no 4", "no 5"),
     "new": (*BY_NAME, "no 7", "no 10"),
     "newarray": (*BY_NAME, "no 7", "no 10"),
     "load": (*BY_NAME, "ok null by name"),
@@ -62,7 +63,7 @@ WANTED = {
 }
 LEAST = 3
 # The events that name a class or a field, beside `new`.
-BY_NAMES = (b"newarray", b"load", b"store", b"put")
+BY_NAMES = (b"class", b"newarray", b"load", b"store", b"put")
 # How often lines are asked.
 WEIGHTS = dict.fromkeys(QUESTIONS | FILES, 2) | dict.fromkeys(BY_NAMES, 1)
 WEIGHTS |= {b"show": 6, b"watch": 4, b"writes": 4, b"help": 2, b"name": 6, b"at": 4, b"dominators": 4, b"draw": 1}
@@ -204,6 +205,9 @@ class AskingDraw(Draw):
     def event_words(self, word):
         """Returns the words of an event that names a class or a field."""
         lots = self.lots
+        if word == b"class":
+            names = [each.name.decode() for each in self.state.classes]
+            return [self.name(), lots.pick([*names, *names, "absent", "-"]), *lots.pick([self.fields(), self.fields(), ["v"]])]
         if word == b"newarray":
             names = [each.name.decode() for each in self.state.classes if each.is_array or lots.once_in(3)]
             return [lots.near(self.mutator(), 70), lots.near(lots.below(REGISTERS), 70), lots.pick([*names, "absent"]), self.length()]

@@ -77,7 +77,8 @@ order_keeps Collect m n r s text h l = subst (λ (x : Redo). IsRedoOf n x) (sym 
 order_keeps (RewindTo place) m n r s text h l = rewinds_keep m n r s (steps_ago (Some place) m.trail) text h l
 order_keeps (Forward count) m n r s text h l = forward_keeps count m n r s text h l
 order_keeps (ForwardTo place) m n r s text h l = forward_to_keeps (steps_on place m.trail r) m n r s text h l
-order_keeps (Act e) m n r s text h l = acts_keep m n r s (Step e) text h l
+order_keeps (Act e) m n r s text (inl h) l = acts_keep m n r s (Step e) text h l
+order_keeps (Act e) m n r s text (inr h) l = nothing_keeps m n r s h.1.1 h.1.2 l
 
 -- ---- lines
 

@@ -12,7 +12,7 @@ use Rattle.session_grammar.specs.declared.command.Command.TheVariants.{Ask, Bad}
 use Rattle.session_grammar.specs.Grammar.{access_rules, at_end, by_rule, class_rules, command_of_words, making_rules, marking_rules, number_of_word, place_or_dash, session_rules, words_of_line}
 use Rattle.question_grammar.specs.Bookmarks.{Bookmarks, place_named}
 use Rattle.question_grammar.specs.Chains.{chain_of_words}
-use Rattle.question_grammar.specs.EventNames.{event_by_name, event_of_words}
+use Rattle.question_grammar.specs.EventNames.{event_by_name, event_of_words, object_event_by_name}
 use Rattle.question_grammar.specs.NamedLines.{named_question_of_words, named_rules}
 use Rattle.question_grammar.specs.NoteLines.{name_of_word, name_set, place_by_name, place_opened, place_set, word_behind}
 use Rattle.question_grammar.specs.Orders.{order_in, order_of_two, order_of_words}
@@ -72,11 +72,11 @@ alone_line bm state l ws is a =
     }
 
 at_words : (bm : Bookmarks) (state : HeapState) (v : List ℕ) → AreAlone bm state (codes "at" ∷ v ∷ [])
-unfolding by_rule class_rules making_rules access_rules marking_rules session_rules order_of_words order_of_two event_by_name question_of_words question_rules past_rules named_question_of_words named_rules
+unfolding by_rule class_rules making_rules access_rules marking_rules session_rules order_of_words order_of_two event_by_name object_event_by_name question_of_words question_rules past_rules named_question_of_words named_rules
 at_words bm state v = record { command = refl; order = refl; event = refl; question = refl; named = refl; chain = refl; help = refl }
 
 name_words : (bm : Bookmarks) (state : HeapState) (v : List ℕ) → AreAlone bm state (codes "name" ∷ v ∷ [])
-unfolding by_rule class_rules making_rules access_rules marking_rules session_rules order_of_words order_of_two event_by_name question_of_words question_rules past_rules named_question_of_words named_rules
+unfolding by_rule class_rules making_rules access_rules marking_rules session_rules order_of_words order_of_two event_by_name object_event_by_name question_of_words question_rules past_rules named_question_of_words named_rules
 name_words bm state v = record { command = refl; order = refl; event = refl; question = refl; named = refl; chain = refl; help = refl }
 
 pub place_alone : (bm : Bookmarks) (state : HeapState) (l : List ℕ) (to : Option ℕ) → place_set bm l ≡ Some to → IsAlone bm state l
@@ -119,7 +119,7 @@ no_open v e =
     ap (λ (o : Option (Option ℕ)). unwrap_or (option_map (λ at. Ask (OpenPin at)) (option_and_then (λ (a : Option ℕ × List (List ℕ)). at_end a.0 a.1) (option_map (λ at. (at, [])) o))) Bad) e
 
 open_words : (bm : Bookmarks) (state : HeapState) (v : List ℕ) → place_or_dash v ≡ None → AreAlone bm state (codes "open" ∷ v ∷ [])
-unfolding order_of_words order_of_two event_by_name question_of_words question_rules past_rules named_question_of_words named_rules
+unfolding order_of_words order_of_two event_by_name object_event_by_name question_of_words question_rules past_rules named_question_of_words named_rules
 open_words bm state v e = record { command = no_open v e; order = refl; event = refl; question = refl; named = refl; chain = refl; help = refl }
 
 opened_word : (bm : Bookmarks) (l : List ℕ) (place : ℕ) → place_opened bm l ≡ Some place → (v : List ℕ) × (words_of_line l ≡ codes "open" ∷ v ∷ []) × (place_by_name bm v ≡ Some place)

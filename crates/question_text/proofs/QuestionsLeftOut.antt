@@ -149,7 +149,8 @@ order_driven m Collect x n r r' text h d = cycle_driven m x n h.0 h.1 h.2 d
 order_driven m (RewindTo place) x n r r' text h d = rewind_driven m x n r r' (steps_ago (Some place) x.trail) text h d
 order_driven m (Forward count) x n r r' text h d = forward_driven count m x n r r' text h d
 order_driven m (ForwardTo place) x n r r' text h d = forward_to_driven (steps_on place x.trail r) m x n r r' text h d
-order_driven m (Act e) x n r r' text h d = act_driven m x n r r' (Step e) text h d
+order_driven m (Act e) x n r r' text (inl h) d = act_driven m x n r r' (Step e) text h d
+order_driven m (Act e) x n r r' text (inr h) d = subst (IsDriven m) (sym h.1.1) d
 
 unknown_driven : (m : Machine) (order : Option Order) (l text : List ℕ) (c d : Asking) → AnswersLine order l c text d → IsDriven m c.local.machine → IsDriven m d.local.machine
 unknown_driven m (Some order) l text c d h p = order_driven m order c.local.machine d.local.machine c.redo d.redo text h.0 p

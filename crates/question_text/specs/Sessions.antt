@@ -1,6 +1,8 @@
 -- Sessions with questions.
-use Rattle.std.specs.Prelude.{◌≡◌, ℕ, Bool, true, false, List, [], ◌∷◌, Option, Some, None, filter, flat_map, map}
+use Rattle.std.specs.Prelude.{◌≡◌, ◌⊎◌, ℕ, Bool, true, false, List, [], ◌∷◌, Option, Some, None, filter, flat_map, map}
 use Rattle.std.specs.List.{AllByRecursion}
+use Rattle.heap_class.specs.declared.Refusal.TheVariants.{NoMemory}
+use Rattle.heap_step.specs.declared.Event.{Event}
 use Rattle.heap_trail.specs.declared.Action.{Action}
 use Rattle.heap_trail.specs.declared.Reply.{Reply}
 use Rattle.heap_trail.specs.Machine.{Allocation, Machine, MayDrive}
@@ -8,6 +10,7 @@ use Rattle.heap_world.specs.State.{HeapState}
 use Rattle.session_grammar.specs.declared.command.Command.{Command}
 use Rattle.session_grammar.specs.declared.command.Command.TheVariants.{Bad}
 use Rattle.session_grammar.specs.Grammar.{command_of, command_of_text, without_cr}
+use Rattle.session_grammar.specs.Reads.{DefinesClass}
 use Rattle.session_text.specs.declared.Ended.TheVariants.{Eof}
 use Rattle.session_text.specs.declared.ReadEnd.TheVariants.{Over}
 use Rattle.session_text.specs.Session.{AllocationsFit, session_of}
@@ -33,7 +36,7 @@ use Rattle.heap_orders.specs.Redos.{noted, with_steps, GoesForward}
 use Rattle.heap_trail.specs.declared.Action.TheVariants.{OpenPin, Step}
 use Rattle.session_text.specs.Replies.{reply_text}
 use Rattle.question_grammar.specs.declared.order.Order.TheVariants.{Act, Collect, Forward, ForwardTo, RewindTo}
-use Rattle.heap_orders.specs.Deeds.{Deed, ActsOnce, Collects, RewindsTo, GoesForwardTo}
+use Rattle.heap_orders.specs.Deeds.{Deed, ActsOnce, Collects, IsRefusedDeed, RewindsTo, GoesForwardTo}
 
 -- an action, as without questions, which is noted
 abbrev pub AskingActs : Acts Asking
@@ -47,13 +50,18 @@ HasNoted c steps d =
     (d.redo ≡ with_steps steps c.redo) × (d.local.first_pin ≡ c.local.first_pin)
     × (d.watch ≡ c.watch) × (d.bookmarks ≡ c.bookmarks)
 
+-- an event by a name; or there was no memory to read the class that it defines, and nothing is done
+abbrev pub TakesNamed : Event → Deed
+TakesNamed e m r text m' r' =
+    ActsOnce (Step e) m r text m' r' ⊎ (DefinesClass e × IsRefusedDeed NoMemory m r text m' r')
+
 -- what is asked to be done
 abbrev pub Does : Order → Deed
 Does Collect = Collects
 Does (RewindTo place) = RewindsTo place
 Does (Forward n) = GoesForward n
 Does (ForwardTo place) = GoesForwardTo place
-Does (Act e) = ActsOnce (Step e)
+Does (Act e) = TakesNamed e
 
 -- an order does what it asks, and no other line changes anything but bookmarks
 abbrev pub AnswersLine : Option Order → AnswerRelation Asking

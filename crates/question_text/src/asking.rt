@@ -113,9 +113,10 @@ impl<'a> Asking<'a> {
             self.old (line_answer_text result) self.new }
         ensures watch { self.new.watch ≡ self.old.watch }
     {
-        match order_in(&self.bookmarks, self.local.machine.world(), line) {
-            Some(order) => self.obey(alloc, order),
-            None => self.note_line(alloc, line),
+        match order_in(alloc, &self.bookmarks, self.local.machine.world(), line) {
+            Ok(Some(order)) => self.obey(alloc, order),
+            Ok(None) => self.note_line(alloc, line),
+            Err(_) => LineAnswer::Known(Reply::Refused(Refusal::NoMemory)),
         }
     }
 

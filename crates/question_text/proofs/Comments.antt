@@ -87,10 +87,7 @@ chains_none : (bm : Bookmarks) (l : List ℕ) → is_comment l ≡ true → chai
 chains_none bm l e = of_comment (chain_of_words bm) (comment_is_no_chain bm) (words_of_line l) e
 
 opens_none : (bm : Bookmarks) (v : List ℕ) (ws : List (List ℕ)) → place_opened_by bm ((35 ∷ v) ∷ ws) ≡ None
-unfolding word_behind
-opens_none bm v [] = refl
-opens_none bm v (w ∷ []) = refl
-opens_none bm v (w ∷ u ∷ ws) = refl
+opens_none bm v ws = refl
 
 places_none : (bm : Bookmarks) (v : List ℕ) (ws : List (List ℕ)) → place_set_by bm ((35 ∷ v) ∷ ws) ≡ None
 unfolding word_behind

@@ -94,8 +94,8 @@ unknown_keeps : (order : Option Order) (l text : List ℕ) (c d : Asking) → An
 unknown_keeps (Some order) l text c d h k = order_keeps order c.local.machine d.local.machine c.redo d.redo text h.0 k
 unknown_keeps None l text c d h k = subst Keeps (sym h.1) k
 
-opened_keeps : (opened : Option ℕ) (l text : List ℕ) (c d : Asking) → OpensOrAnswers opened l c text d → Keeps c → Keeps d
-opened_keeps (Some place) l text c d h k = act_keeps c (OpenPin (Some place)) h.0 d h.1 k
+opened_keeps : (opened : Option (Option ℕ)) (l text : List ℕ) (c d : Asking) → OpensOrAnswers opened l c text d → Keeps c → Keeps d
+opened_keeps (Some place) l text c d h k = act_keeps c (OpenPin place) h.0 d h.1 k
 opened_keeps None l text c d h k = unknown_keeps (order_in c.bookmarks c.local.machine.trail.current l) l text c d h k
 
 pub answer_keeps_redo : (l text : List ℕ) (c d : Asking) → AskingAnswers l c text d → Keeps c → Keeps d
@@ -162,7 +162,7 @@ pub line_takes_back : (n place : ℕ) (l text : List ℕ) (c d e : Asking) → K
     → IsBackAt c.local.machine c.redo text e.local.machine e.redo ⊎ (text ≡ refused_text NoMemory)
 line_takes_back n place l text c d e k few acts is says =
     let state = d.local.machine.trail.current in
-    let line : AnswersLine (order_in d.bookmarks state l) l d text e = subst (λ (o : Option ℕ). OpensOrAnswers o l d text e) (order_opens_none d.bookmarks state l (Forward n) is) says.0 in
+    let line : AnswersLine (order_in d.bookmarks state l) l d text e = subst (λ (o : Option (Option ℕ)). OpensOrAnswers o l d text e) (order_opens_none d.bookmarks state l (Forward n) is) says.0 in
     let answers : AnswersLine (Some (Forward n)) l d text e = subst (λ (o : Option Order). AnswersLine o l d text e) is line in
     forward_takes_back n place c.local.machine d.local.machine e.local.machine c.redo d.redo e.redo text k few acts.0 acts.2 answers.0
 

@@ -72,10 +72,10 @@ AnswersLine None l c text d =
     NotesLine l c.local.machine None c.bookmarks text d.bookmarks
     × (d ≡ record c { bookmarks = d.bookmarks })
 
--- a pin is opened on the state at a place; or the line is answered as above
-abbrev pub OpensOrAnswers : Option ℕ → AnswerRelation Asking
+-- a pin is opened on the state at a place, or on the current one; or the line is answered as above
+abbrev pub OpensOrAnswers : Option (Option ℕ) → AnswerRelation Asking
 OpensOrAnswers (Some place) l c text d =
-    (r : Reply) × AskingActs c (OpenPin (Some place)) r d × (text ≡ reply_text r)
+    (r : Reply) × AskingActs c (OpenPin place) r d × (text ≡ reply_text r)
 OpensOrAnswers None l c text d =
     AnswersLine (order_in c.bookmarks c.local.machine.trail.current l) l c text d
 
@@ -131,7 +131,7 @@ texts_of answered = flat_map (λ a. a.1) answered
 abbrev pub known_of : List (List ℕ × List ℕ) → List (List ℕ × List ℕ)
 known_of answered = filter (λ a. is_known (command_of a.0)) answered
 
--- the line opens no pin by a name and is no order, in any state, by any bookmarks
+-- the line is no `open` that the grammar of sessions doesn't know, and no order, in any state, by any bookmarks
 abbrev pub IsNoOrder : List ℕ → Type 0
 IsNoOrder l =
     (b : Bookmarks) (state : HeapState)

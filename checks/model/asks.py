@@ -46,7 +46,7 @@ WANTED = {
     "status": ("ok",),
     "collect": ("ok",),
     "rewind": ("ok place", "ok by a place's name", "no 24"),
-    "class": (*BY_NAME, "no 2", "no 3", "no 4", "no 5"),
+    "class": (*BY_NAME, "no 2", "no 4", "no 5"),
     "new": (*BY_NAME, "no 7", "no 10"),
     "newarray": (*BY_NAME, "no 7", "no 10"),
     "load": (*BY_NAME, "ok null by name"),
@@ -277,8 +277,10 @@ class AskingDraw(Draw):
         form = "" if word == b"help" else self.lots.pick((QUESTIONS | FILES)[word].split("|"))
         parts = findall(r"\??.", form)
         kept = [part for part in parts if part[0] != "?" or not self.lots.once_in(4)]
+        if form == "?a?a" and self.lots.once_in(4):
+            kept = []
         form = "".join(part[-1] for part in kept)
-        left_out = any(part in ("?a", "?p") for part in parts if part not in kept)
+        left_out = any(parts.count(part) > kept.count(part) for part in ("?a", "?p"))
         if word in BY_NAMES:
             words = self.event_words(word)
         else:

@@ -21,13 +21,13 @@ none_with_a_bad_word ws vs w words e =
     ap plain_fields words ∙ ap (λ (o : Option Field). option_and_then (λ (g : Field). option_map (λ (fs : List Field). g ∷ fs) (plain_fields vs)) o) e
 
 -- those that were copied, and one more, before the others
-one_more : (old : List Field) (f : Field) (o : Option (List Field)) → option_map (λ (fs : List Field). old ++ fs) (option_map (λ (fs : List Field). f ∷ fs) o) ≡ option_map (λ (fs : List Field). (old ++ f ∷ []) ++ fs) o
-one_more old f None = refl
-one_more old f (Some fs) = ap Some (sym (append_assoc old (f ∷ []) fs))
+before_the_others : (old : List Field) (f : Field) (o : Option (List Field)) → option_map (λ (fs : List Field). old ++ fs) (option_map (λ (fs : List Field). f ∷ fs) o) ≡ option_map (λ (fs : List Field). (old ++ f ∷ []) ++ fs) o
+before_the_others old f None = refl
+before_the_others old f (Some fs) = ap Some (sym (append_assoc old (f ∷ []) fs))
 
 pub copied_one_more : (ws vs : List (List ℕ)) (w : List ℕ) (f : Field) (old new : List Field) → ws ≡ w ∷ vs → plain_field w ≡ Some f → new ≡ old ++ f ∷ [] → option_map (λ (fs : List Field). old ++ fs) (plain_fields ws) ≡ option_map (λ (fs : List Field). new ++ fs) (plain_fields vs)
 copied_one_more ws vs w f old new words e more =
     ap (λ (l : List (List ℕ)). option_map (λ (fs : List Field). old ++ fs) (plain_fields l)) words
     ∙ ap (λ (o : Option Field). option_map (λ (fs : List Field). old ++ fs) (option_and_then (λ (g : Field). option_map (λ (fs : List Field). g ∷ fs) (plain_fields vs)) o)) e
-    ∙ one_more old f (plain_fields vs)
+    ∙ before_the_others old f (plain_fields vs)
     ∙ ap (λ (l : List Field). option_map (λ (fs : List Field). l ++ fs) (plain_fields vs)) (sym more)

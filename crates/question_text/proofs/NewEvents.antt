@@ -149,9 +149,9 @@ class_by_name_alone classes (name ∷ ws) e is = go (is_plain name) is
 
 -- ---- so they are no lines of the grammar
 
-no_class : (ws : List (List ℕ)) → class_line ws ≡ None → by_rule all_rules (codes "class") ws ≡ None
+no_class_line : (ws : List (List ℕ)) → class_line ws ≡ None → by_rule all_rules (codes "class") ws ≡ None
 unfolding by_rule class_rules making_rules access_rules marking_rules session_rules
-no_class ws e = e
+no_class_line ws e = e
 
 no_new : (ws : List (List ℕ)) → three_numbers ws ≡ None → by_rule all_rules (codes "new") ws ≡ None
 unfolding by_rule class_rules making_rules access_rules marking_rules session_rules
@@ -234,7 +234,7 @@ unfolding event_by_name
 event_alone state w ws e is = go (bytes_eq w (codes "class")) refl is
   where
     go : (defines : Bool) → bytes_eq w (codes "class") ≡ defines → cond defines (class_by_name state.classes ws) (object_event_by_name state w ws) ≡ Some e → IsEventAlone w ws
-    go true h is = alone_by w (codes "class") ws h (no_class ws (class_by_name_alone state.classes ws e is)) (λ bm. class_asks_nothing bm ws)
+    go true h is = alone_by w (codes "class") ws h (no_class_line ws (class_by_name_alone state.classes ws e is)) (λ bm. class_asks_nothing bm ws)
     go false h is = object_event_alone state w ws e is
 
 -- ---- orders of both sorts

@@ -136,6 +136,7 @@ fn answer_order<L: Heap>(
 }
 
 // Does what a line asks to be done for one who holds the lock, and answers it.
+#[tactic(auto, using(crate::proofs::HeldSteps::taken_under_lock))]
 fn do_held<L: Heap>(
     alloc: Global,
     kept: &mut Kept<L>,

@@ -688,7 +688,7 @@ class Names(unittest.TestCase):
     def test_elements_supers_and_moments(self):
         with session("--questions", "1") as heap:
             heap.define_class("null", [("next", "object")])
-            heap.define_class("2024", sup=0)
+            heap.define_class("2024", sup="null")
             heap.define_array("[null;")
             self.assertEqual(heap.classes()[1:], [(1, "2024", 0), (2, "[null;", "array")])
             array = heap.new_array(0, 0, 2, 2)

@@ -121,16 +121,31 @@ fn add_lines<'a>(
     heading: &Heading,
 ) -> Result<(), AllocError> {
     for line in lines.split(|byte| *byte == LINE_END) {
-        match line.strip_prefix(b"row ") {
+        match aligned_row(line) {
             Some(row) => rows.push(row)?,
             None => {
                 add_rows(text, rows.as_slice(), heading)?;
                 rows.clear();
-                add_line(text, line)?;
+                add_line(text, without_row(line))?;
             }
         }
     }
     add_rows(text, rows.as_slice(), heading)
+}
+
+// Returns the text of a row whose words are shown in columns, or None if the line is no row, or a row of words of `help`, which begin
+// with `#`.
+fn aligned_row(line: &[u8]) -> Option<&[u8]> {
+    let row = line.strip_prefix(b"row ")?;
+    if row.starts_with(b"# ") {
+        return None;
+    }
+    Some(row)
+}
+
+// Returns a line without the word `row` before it.
+fn without_row(line: &[u8]) -> &[u8] {
+    line.strip_prefix(b"row ").unwrap_or(line)
 }
 
 // Adds rows with their words in columns, and before them their heading.

@@ -28,6 +28,7 @@ pub mod Walk
 pub mod ChangedSlots
 pub mod WrittenSlots
 pub mod NewestSteps
+pub mod SeenSteps
 pub mod Sizes
 pub mod ImagePaths
 pub mod UnreachedObjects

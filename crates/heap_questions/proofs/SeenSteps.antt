@@ -42,8 +42,9 @@ written_seen : (t : Trail) (n : ℕ) (left : Undo) (w : HeapState) (p : PinConte
 written_seen t n left w p at h c e =
     let u = state_ago n t in
     let o = written_live c.0 (state_ago (n + 1) t) u left at c.1 e in
-    seen_as u w p at o.0 h o.1
-    ∙ sym (ap (λ (x : Option Object). option_map_or {B = DumpedObject} (λ o. record { id = id_of u.regions at; kind = o.kind; words = o.words }) x (record { id = 0; kind = Instance 0; words = [] })) o.1)
+    let none : DumpedObject = record { id = 0; kind = Instance 0; words = [] } in
+    let show : Object → DumpedObject = λ o. record { id = id_of u.regions at; kind = o.kind; words = o.words } in
+    seen_as u w p at o.0 h o.1 ∙ sym (ap (λ (x : Option Object). option_map_or show x none) o.1)
 
 -- so what it did and wrote is told as it was
 pub event_seen : (t : Trail) (n : ℕ) (left : Undo) (w : HeapState) (p : PinContents) → IsShownBeside w p (state_ago n t) → HasRecord t n left → event_by (seen_object p w) p.registers left ≡ event_to (state_ago n t) left

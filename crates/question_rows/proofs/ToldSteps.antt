@@ -27,7 +27,8 @@ use Rattle.question_rows.proofs.LivedRows.{kind_there}
 kind_of_state : (w : HeapState) (at : ObjRef) (o : Object) → object_at w.regions at ≡ Some o → (object_of_state w at).kind ≡ o.kind
 kind_of_state w at o here =
     let none : DumpedObject = record { id = 0; kind = Instance 0; words = [] } in
-    ap (λ (x : Option Object). (option_map_or {B = DumpedObject} (λ o. record { id = id_of w.regions at; kind = o.kind; words = o.words }) x none).kind) here
+    let show : Object → DumpedObject = λ o. record { id = id_of w.regions at; kind = o.kind; words = o.words } in
+    ap (λ (x : Option Object). (option_map_or show x none).kind) here
 
 step_there : (keep : ℕ) (t : Trail) (n : ℕ) (left : Undo) → IsTrail keep t → slice_get t.records n ≡ Some left → IsStepThere t.current.classes (past_step t n left)
 step_there keep t n (New at fresh m r old) trail there =

@@ -20,6 +20,8 @@ pub mod FoundPaths
 pub mod WaysBack
 pub mod Hops
 pub mod Starting
+pub mod ShortestWays
+pub mod KnownDistances
 pub mod StartSearch
 pub mod PathStarts
 pub mod ToldObjects

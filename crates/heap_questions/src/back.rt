@@ -53,47 +53,6 @@ pub(crate) fn distances_back<V: View>(
     Ok(table)
 }
 
-// Notes that so many slots lead from a node to the goal, unless fewer are known to. Fails with NoMemory.
-fn reach(
-    table: &mut Vec<u32>,
-    queue: &mut Vec<u32>,
-    node: usize,
-    distance: u32,
-) -> Result<(), Refusal>
-    ensures refused { IfErr result (λ e. e ≡ NoMemory) }
-{
-    if node < table.len() && node < FAR as usize && table[node] == FAR {
-        table[node] = distance;
-        queue.push(node as u32)?;
-    }
-    Ok(())
-}
-
-// Notes how far the nodes are from the goal that name a node. Fails with NoMemory.
-fn go_back(
-    back: &BackReferences,
-    table: &mut Vec<u32>,
-    queue: &mut Vec<u32>,
-    node: usize,
-) -> Result<(), Refusal>
-    ensures refused { IfErr result (λ e. e ≡ NoMemory) }
-{
-    if node >= table.len() || node >= back.last.len() {
-        return Ok(());
-    }
-    let distance = table[node].saturating_add(1);
-    let mut here = back.last[node] as usize;
-    for _ in 0..back.all.len() {
-        if here >= back.all.len() {
-            return Ok(());
-        }
-        let reference = back.all[here];
-        reach(table, queue, reference.from as usize, distance)?;
-        here = reference.before as usize;
-    }
-    Ok(())
-}
-
 // Returns all references between the objects of a view. The nodes must be the view's. Fails with NoMemory.
 fn references_back<V: View>(
     alloc: Global,
@@ -135,11 +94,7 @@ fn add_references<V: View>(
 }
 
 // Returns the id that a slot of an object names, whose class must be there, or None if it holds a value.
-fn named_along(
-    classes: &FirstClasses<'_>,
-    object: &ShownObject<'_>,
-    slot: usize,
-) -> Option<u64>
+fn named_along(classes: &FirstClasses<'_>, object: &ShownObject<'_>, slot: usize) -> Option<u64>
     requires known { IsKnown classes.now object.now.kind (length object.now.words) }
     requires slot { slot < length object.now.words }
 {
@@ -170,6 +125,47 @@ fn add_reference(
                 before,
             })?;
         }
+    }
+    Ok(())
+}
+
+// Notes that so many slots lead from a node to the goal, unless fewer are known to. Fails with NoMemory.
+fn reach(
+    table: &mut Vec<u32>,
+    queue: &mut Vec<u32>,
+    node: usize,
+    distance: u32,
+) -> Result<(), Refusal>
+    ensures refused { IfErr result (λ e. e ≡ NoMemory) }
+{
+    if node < table.len() && node < FAR as usize && table[node] == FAR {
+        table[node] = distance;
+        queue.push(node as u32)?;
+    }
+    Ok(())
+}
+
+// Notes how far the nodes are from the goal that name a node. Fails with NoMemory.
+fn go_back(
+    back: &BackReferences,
+    table: &mut Vec<u32>,
+    queue: &mut Vec<u32>,
+    node: usize,
+) -> Result<(), Refusal>
+    ensures refused { IfErr result (λ e. e ≡ NoMemory) }
+{
+    if node >= table.len() || node >= back.last.len() {
+        return Ok(());
+    }
+    let distance = table[node].saturating_add(1);
+    let mut here = back.last[node] as usize;
+    for _ in 0..back.all.len() {
+        if here >= back.all.len() {
+            return Ok(());
+        }
+        let reference = back.all[here];
+        reach(table, queue, reference.from as usize, distance)?;
+        here = reference.before as usize;
     }
     Ok(())
 }

@@ -103,7 +103,13 @@ fn push_event(
             push_overwritten(text, m, r, old)?;
             push_reference(text, new)
         }
-        PastEvent::New { id, m, r, old, kind } => {
+        PastEvent::New {
+            id,
+            m,
+            r,
+            old,
+            kind,
+        } => {
             push_made(text, id, m, r, old)?;
             push_class(text, classes, kind)
         }
@@ -159,6 +165,14 @@ fn push_class(
     push_class_name(text, classes, kind)
 }
 
+// Appends a word and a number. Fails if an allocation fails.
+fn push_counted(text: &mut Vec<u8>, word: &[u8], n: u64) -> Result<(), AllocError>
+    ensures { Appends (word.now ++ and_number n) text.old.items text.new.items result }
+{
+    push_words(text, word)?;
+    push_number(text, n)
+}
+
 // Appends the number of a region, and how many objects were removed from it. Fails if an allocation fails.
 fn push_swept(text: &mut Vec<u8>, region: u64, dead: u64) -> Result<(), AllocError>
     ensures { Appends ((codes " sweep" ++ and_number region) ++ and_number dead)
@@ -166,12 +180,4 @@ fn push_swept(text: &mut Vec<u8>, region: u64, dead: u64) -> Result<(), AllocErr
 {
     push_counted(text, b" sweep", region)?;
     push_number(text, dead)
-}
-
-// Appends a word and a number. Fails if an allocation fails.
-fn push_counted(text: &mut Vec<u8>, word: &[u8], n: u64) -> Result<(), AllocError>
-    ensures { Appends (word.now ++ and_number n) text.old.items text.new.items result }
-{
-    push_words(text, word)?;
-    push_number(text, n)
 }

@@ -15,25 +15,52 @@ use heap_world::World;
 #[derive(Clone, Copy)]
 pub enum PastEvent {
     /// A value was written to a slot: its old word and its new one.
-    Put { id: u64, slot: u64, old: u64, new: u64 },
+    Put {
+        id: u64,
+        slot: u64,
+        old: u64,
+        new: u64,
+    },
     /// A reference was written to a slot: its old word and its new one.
-    Store { id: u64, slot: u64, old: u64, new: u64 },
+    Store {
+        id: u64,
+        slot: u64,
+        old: u64,
+        new: u64,
+    },
     /// Register `r` of mutator `m` was written: its old word and its new one.
-    Register { m: u64, r: u64, old: u64, new: u64 },
+    Register {
+        m: u64,
+        r: u64,
+        old: u64,
+        new: u64,
+    },
     /// An object of this kind was made, and register `r` of mutator `m` was written: its old word.
-    New { id: u64, m: u64, r: u64, old: u64, kind: ObjKind },
+    New {
+        id: u64,
+        m: u64,
+        r: u64,
+        old: u64,
+        kind: ObjKind,
+    },
     /// A class was defined.
     Class,
     /// A cycle was begun.
     Snap,
     /// An object was marked: its id, and the number of its children that were pushed.
-    Mark { parent: u64, pushed: u64 },
+    Mark {
+        parent: u64,
+        pushed: u64,
+    },
     /// An entry of the log was drained: the number of objects that were pushed.
     Drain(u64),
     /// A cycle was ended: the number of entries of its log.
     Finish(u64),
     /// A region was swept that keeps objects: the number of objects that were removed.
-    Sweep { region: u64, dead: u64 },
+    Sweep {
+        region: u64,
+        dead: u64,
+    },
     /// A region was swept that is empty now.
     Reclaim(u64),
 }

@@ -108,6 +108,15 @@ pub(crate) fn size_at(world: &World, region: u64) -> u64
     }
 }
 
+// Returns the size of a region's cells.
+fn size_of(storage: &RegionView<'_>) -> u64
+    requires { 0 < length storage.now.cells }
+    ensures value { result ≡ storage_cell_size storage.now }
+    ensures limit { result ≤ heap_words }
+{
+    storage.word_count() / storage.cells()
+}
+
 // Returns the cell of this size that an id names, of a region that has the id's word, or None if the id is that of no such cell.
 pub(crate) fn cell_by(size: u64, region: u16, id: u64) -> Option<ObjRef>
     requires small { size ≤ heap_words }
@@ -148,13 +157,4 @@ pub(crate) fn size_before(left: &Undo, region: u64, now: u64) -> u64
         }
         _ => now,
     }
-}
-
-// Returns the size of a region's cells.
-fn size_of(storage: &RegionView<'_>) -> u64
-    requires { 0 < length storage.now.cells }
-    ensures value { result ≡ storage_cell_size storage.now }
-    ensures limit { result ≤ heap_words }
-{
-    storage.word_count() / storage.cells()
 }

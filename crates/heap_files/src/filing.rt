@@ -36,7 +36,7 @@ impl<'a, F: Folder> Filing<'a, F> {
           asking = asking.entry;
           folder = folder;
           time = time;
-          hinting = hinting;
+          hinting = hinting.entry;
         } }
     {
         asking.watch.note_files();

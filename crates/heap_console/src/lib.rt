@@ -27,5 +27,5 @@ pub use line_reports::LineReports;
 pub use load::load_lines;
 pub use load_outlet::{LoadOutlet, LoadStart};
 pub use newest::{NewestLine, NotingOutlet};
-pub use picture::picture_of;
+pub use picture::picture_at;
 pub use prompt::PromptInlet;

@@ -15,7 +15,7 @@ use session_text::{Commands, LineAnswer};
 use std::alloc::Global;
 
 /// A private machine that acts on the lines of a session and answers questions, as `Asking` does, and writes files: the dump of a
-/// state by `write [AT] PATH`, and a picture of the current one by `draw PATH`.
+/// state by `write [AT] PATH`, and a picture of one by `draw [AT] PATH`.
 #[derive(Drop)]
 pub struct Filing<'a, F> {
     /// The machine and what its session notes.
@@ -80,9 +80,10 @@ impl<'a, F: Folder> Filing<'a, F> {
                 &mut self.folder,
                 path,
             ),
-            FileContent::Picture => write_picture(
+            FileContent::PictureOf(at) => write_picture(
                 alloc,
                 &self.asking.local.machine,
+                at,
                 &mut self.folder,
                 path,
             ),

@@ -12,7 +12,7 @@ use Rattle.question_text.specs.Help.{LineForm, all_forms, form_of, form_with, he
 unfoldable pub file_forms : List LineForm
 file_forms =
     form_of (codes "write") (codes "write [AT] PATH") (codes "write heap.hprof")
-    ∷ form_of (codes "draw") (codes "draw PATH") (codes "draw heap.svg")
+    ∷ form_of (codes "draw") (codes "draw [AT] PATH") (codes "draw heap.svg")
     ∷ []
 
 -- the answer of `help`: a row for each line, and for each that writes a file

@@ -214,12 +214,26 @@ def compiler_fates(edits, said):
     return bad, [part for part in ([rest] if bad else [rest[::2], rest[1::2]]) if part]
 
 
+def parted(texts, edits):
+    """Returns the edits that can be applied one after another to these texts, and those that can't be beside them."""
+    together, apart = [], []
+    for edit in edits:
+        edited = dict(texts)
+        if edit.misfit(edited):
+            apart.append(edit)
+        else:
+            texts = edited
+            together.append(edit)
+    return together, apart
+
+
 def try_round(folder, edits):
     """Returns the verdict of each edit of a round."""
-    said = check(folder, edits)
+    together, apart = parted(texts_of(folder), edits)
+    said = check(folder, together)
     reached = any(line.startswith(("fn ", "only=", "logic=")) for line in said)
-    found, rounds = (prover_fates if reached else compiler_fates)(edits, said)
-    for each in rounds:
+    found, rounds = (prover_fates if reached else compiler_fates)(together, said)
+    for each in [*rounds, *([apart] if apart else [])]:
         found |= try_round(folder, each)
     return found
 

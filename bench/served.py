@@ -19,7 +19,7 @@ import time
 TOP = pathlib.Path(__file__).resolve().parent.parent
 sys.path.append(str(TOP / "checks"))
 
-from ports import free_ports  # noqa: E402
+from servers import DumpServer  # noqa: E402
 
 NODES, MANY_NODES, PUTS, RUNS = 20_000, 60_000, 150_000, 5
 OPTIONS = ["--regions", "256", "--keep", "1"]
@@ -43,16 +43,11 @@ def told(port, lines):
 @contextlib.contextmanager
 def served(program, sessions, nodes):
     """Serves a heap with workers and dumps, on which one session has made the nodes. Gives its two ports."""
-    port, dumps = free_ports(2)
-    words = [program, "serve", "--port", str(port), "--dumps", str(dumps), "--workers", "1", "--sessions", str(sessions), *OPTIONS]
-    server = subprocess.Popen(words, stdout=subprocess.DEVNULL)
-    while True:
-        with contextlib.suppress(ConnectionRefusedError):
-            told(port, made(nodes))
-            break
-        time.sleep(0.01)
-    yield port, dumps
-    server.wait()
+    with DumpServer(program, sessions, "--workers", "1", *OPTIONS, stdout=subprocess.DEVNULL, stderr=None) as server:
+        server.waits()
+        told(server.port, made(nodes))
+        yield server.port, server.dumps
+        server.run.wait()
 
 
 def puts(program, port, folder):

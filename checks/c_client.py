@@ -13,7 +13,7 @@ import subprocess
 import sys
 import tempfile
 
-from served import LIMIT, TOP, Server
+from servers import LIMIT, TOP, Server
 
 CLIENT = TOP / "clients/c"
 WORDS = ["cc", "-std=c99", "-pedantic", "-Wall", "-Wextra", "-Werror", "-O1", "-I", str(CLIENT)]

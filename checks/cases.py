@@ -2,7 +2,7 @@
 """Runs the built program, and the model, on worked sessions, and compares what comes with what must come.
 
 Usage: checks/cases.py [PROGRAM ..]
-A case is examples/cases/NAME.session with what it must be answered in NAME.expected, and words for `run` in NAME.args if it
+A case is checks/sessions/cases/NAME.session with what it must be answered in NAME.expected, and words for `run` in NAME.args if it
 needs any; or it is long and made here. A program has each case at once, and a short one byte by byte too.
 Prints a line for each difference and ends with status 1 if there is one. Prints nothing where all is well."""
 import contextlib
@@ -27,7 +27,7 @@ SHORT = 4096
 
 def stored():
     """Yields the cases in files as (name, words, lines, answers)."""
-    for path in sorted(TOP.glob("examples/cases/*.session")):
+    for path in sorted(TOP.glob("checks/sessions/cases/*.session")):
         file = path.with_suffix(".args")
         words = file.read_text().split() if file.exists() else []
         yield path.stem, words, path.read_bytes(), path.with_suffix(".expected").read_bytes()

@@ -15,8 +15,8 @@ import tempfile
 import threading
 import time
 
-from served import LIMIT, all_of
-from sockets import PIN_LIMIT, DumpServer, Session, come, free_pins, full_heap
+from servers import LIMIT, DumpServer, all_of
+from sockets import PIN_LIMIT, Session, come, free_pins, full_heap
 
 # The seconds after which a dump is cut off of which no byte goes out, and those by which that may be late.
 PATIENCE, LATE = 10, 1.5

@@ -8,7 +8,7 @@ Usage: checks/edits.py fit                  checks that each edit can be applied
 edits of different functions into one copy and has these functions checked at once. An edit that changes a contract, a definition
 or a constant goes into a copy alone, and the whole crate is checked: a function that calls the edited one may refuse it, and the
 edit is let through only where all functions are proved. The environment's CHECK is the command that checks, run in the crate's
-folder: `checks/over_built.py` where it isn't set."""
+folder: `scripts/over_built.py` where it isn't set."""
 import concurrent.futures
 import os
 import pathlib
@@ -19,9 +19,11 @@ import sys
 import tempfile
 import time
 
-import over_built
-
 TOP = pathlib.Path(__file__).resolve().parent.parent
+sys.path.append(str(TOP / "scripts"))
+
+import over_built  # noqa: E402
+
 CHECK = os.environ["CHECK"].split() if "CHECK" in os.environ else [sys.executable, over_built.__file__]
 PROVERS = 3
 # The most edits that are checked at once.
@@ -212,12 +214,26 @@ def compiler_fates(edits, said):
     return bad, [part for part in ([rest] if bad else [rest[::2], rest[1::2]]) if part]
 
 
+def parted(texts, edits):
+    """Returns the edits that can be applied one after another to these texts, and those that can't be beside them."""
+    together, apart = [], []
+    for edit in edits:
+        edited = dict(texts)
+        if edit.misfit(edited):
+            apart.append(edit)
+        else:
+            texts = edited
+            together.append(edit)
+    return together, apart
+
+
 def try_round(folder, edits):
     """Returns the verdict of each edit of a round."""
-    said = check(folder, edits)
+    together, apart = parted(texts_of(folder), edits)
+    said = check(folder, together)
     reached = any(line.startswith(("fn ", "only=", "logic=")) for line in said)
-    found, rounds = (prover_fates if reached else compiler_fates)(edits, said)
-    for each in rounds:
+    found, rounds = (prover_fates if reached else compiler_fates)(together, said)
+    for each in [*rounds, *([apart] if apart else [])]:
         found |= try_round(folder, each)
     return found
 

@@ -20,9 +20,9 @@ import struct
 import subprocess
 import sys
 import tempfile
-import time
 
-from ports import free_port, free_ports
+from ports import free_port
+from servers import DumpServer, Server, connected
 
 ADDRESS = re.compile(rb"heapdbg: page http://\S+\n")
 SOURCE = pathlib.Path(__file__).resolve().parent / "refuse.c"
@@ -206,22 +206,14 @@ def served(program, library, number, clients, tries=3):
     before the first sends its lines, and each of the others sends its own once the one before was answered. Returns status,
     the words of the sessions, what each client was answered, and standard error; no words and no answers if nothing was
     listened to."""
-    port = free_port()
-    words = [program, "serve", "--port", str(port), "--sessions", str(len(clients)), "--regions", "2"]
     variables = {"LD_PRELOAD": library, "REFUSED": str(number)}
-    answers = []
-    with contextlib.ExitStack() as opened, subprocess.Popen(
-        words, env=variables, stdout=subprocess.PIPE, stderr=subprocess.PIPE
-    ) as server:
-        try:
-            found = [opened.enter_context(client) for _ in clients if (client := connected(server, port))]
-            answers = [replies(answered(client, given)) for client, given in zip(found, clients)]
-            out, error = server.communicate(timeout=60)
-        finally:
-            server.kill()
+    with contextlib.ExitStack() as opened, Server(program, len(clients), "--regions", "2", env=variables) as server:
+        found = [opened.enter_context(client) for _ in clients if (client := client_of(server, server.port))]
+        answers = [replies(answered(client, given)) for client, given in zip(found, clients)]
+        status, words, error = server.ended(60)
     if tries > 1 and error.endswith(b"heapdbg: listen\n"):
         return served(program, library, number, clients, tries - 1)
-    return server.returncode, [line.split()[-1] for line in out.splitlines()], answers, error
+    return status, words, answers, error
 
 
 def joined(answers):
@@ -233,31 +225,22 @@ def tended(program, library, number, clients, regions, tries=3):
     """Serves two clients, one after another, with workers and dumps, and the allocation of this number refused. A dump is fetched
     between the two, and another beside the second. Returns status, the words of the sessions, what each client was answered,
     the dumps, and standard error."""
-    port, dumps = free_ports(2)
-    words = [program, "serve", "--port", str(port), "--dumps", str(dumps), "--sessions", "2", "--workers", "1"]
-    words += ["--regions", str(regions)]
     variables = {"LD_PRELOAD": library, "REFUSED": str(number)}
+    options = ["--workers", "1", "--regions", str(regions)]
     answers, fetched = [], []
-    with contextlib.ExitStack() as opened, subprocess.Popen(
-        words, env=variables, stdout=subprocess.PIPE, stderr=subprocess.PIPE
-    ) as server:
-        try:
-            found = [opened.enter_context(client) for _ in clients if (client := connected(server, port))]
-            for client, given in zip(found, clients):
-                if dumper := connected(server, dumps) if answers else None:
-                    with dumper:
-                        fetched.append(answered(dumper, b""))
-                dumper = connected(server, dumps) if answers else None
-                answers.append(replies(answered(client, given)))
-                if dumper:
-                    with dumper:
-                        fetched.append(answered(dumper, b""))
-            out, error = server.communicate(timeout=60)
-        finally:
-            server.kill()
+    with contextlib.ExitStack() as opened, DumpServer(program, 2, *options, env=variables) as server:
+        found = [opened.enter_context(client) for _ in clients if (client := client_of(server, server.port))]
+        for client, given in zip(found, clients):
+            if answers and (dumper := client_of(server, server.dumps)):
+                fetched.append(dump_of(dumper))
+            dumper = client_of(server, server.dumps) if answers else None
+            answers.append(replies(answered(client, given)))
+            if dumper:
+                fetched.append(dump_of(dumper))
+        status, words, error = server.ended(60)
     if tries > 1 and error.endswith(b"heapdbg: listen\n"):
         return tended(program, library, number, clients, regions, tries - 1)
-    return server.returncode, [line.split()[-1] for line in out.splitlines()], answers, fetched, error
+    return status, words, answers, fetched, error
 
 
 def are_dumps(program, library, lines, regions, found, fetched, error):
@@ -282,10 +265,10 @@ def tended_well(program, library, both, regions, number):
     if words == []:
         # It may listen already when a thread is refused, but it accepts nobody.
         return (status, error) == (1, b"refused\nheapdbg: memory\n") and not any(answers) and not any(fetched)
-    if b"memory" in words:
-        at = words.index(b"memory")
-        return (status, answers[at], words[1 - at]) == (0, [], b"eof")
-    good = words == [b"eof", b"eof"]
+    if "memory" in words:
+        at = words.index("memory")
+        return (status, answers[at], words[1 - at]) == (0, [], "eof")
+    good = words == ["eof", "eof"]
     good = good and is_right(command, library, [*both[0], *both[1]], status, joined(answers), b"refused\n")
     return good and are_dumps(program, library, both[0], regions, answers[0], fetched, error)
 
@@ -313,12 +296,16 @@ def answered(client, given):
     return found
 
 
-def connected(server, port):
-    """Returns a connection to a server once it listens, or None if it ends before."""
-    while server.poll() is None:
-        with contextlib.suppress(ConnectionError):
-            return socket.create_connection(("127.0.0.1", port), 60)
-        time.sleep(0.005)
+def dump_of(client):
+    """Returns what a client of the port for dumps is sent."""
+    with client:
+        return answered(client, b"")
+
+
+def client_of(server, port):
+    """Returns a connection to a port of a server once it listens, or None if it ends before."""
+    with contextlib.suppress(TimeoutError):
+        return connected(port, run=server.run)
     return None
 
 
@@ -331,7 +318,7 @@ def wrong_acts(program, library, lines):
         if not error:
             return number - 1
         found = joined(answers)
-        if words == [b"memory"]:
+        if words == ["memory"]:
             good = (status, found) == (0, [])
         else:
             good = is_right(command, library, lines, status, found, error)
@@ -353,11 +340,11 @@ def wrong_servers(program, library, first, second):
             return number - 1
         if words == [] and answers == []:
             good = (status, error) == (1, b"refused\nheapdbg: memory\n")
-        elif b"memory" in words:
-            at = words.index(b"memory")
-            good = (status, answers[at], answers[1 - at]) == (0, [], alone[at]) and words[1 - at] == b"eof"
+        elif "memory" in words:
+            at = words.index("memory")
+            good = (status, answers[at], answers[1 - at]) == (0, [], alone[at]) and words[1 - at] == "eof"
         else:
-            good = words == [b"eof", b"eof"] and is_right(command, library, first + second, status, joined(answers), error)
+            good = words == ["eof", "eof"] and is_right(command, library, first + second, status, joined(answers), error)
         if not good:
             yield number
     return LIMIT
@@ -438,16 +425,14 @@ def sizes_of_run(command, library, given):
 
 def sizes_of_server(program, library, words, clients):
     """Returns the sizes of the requests that a server of these clients makes, one after another."""
-    port = free_port()
     with tempfile.NamedTemporaryFile() as sizes:
         variables = {"LD_PRELOAD": library, "SIZES": sizes.name}
-        command = [program, "serve", "--port", str(port), "--sessions", str(len(clients)), *words]
-        with subprocess.Popen(command, env=variables, stdout=subprocess.PIPE) as server:
+        with Server(program, len(clients), *words, env=variables) as server:
             for given in clients:
-                if client := connected(server, port):
+                if client := client_of(server, server.port):
                     with client:
                         answered(client, given)
-            server.communicate(timeout=60)
+            server.ended(60)
         return sizes_told(sizes)
 
 

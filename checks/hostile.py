@@ -25,13 +25,12 @@ import sys
 import threading
 import time
 
-from ports import free_port
+from servers import LIMIT, DumpServer, connection
 
 TOP = pathlib.Path(__file__).resolve().parent.parent
 
-LIMIT = 20
 SEATS, HONEST, OBJECTS = 60, 2, 1000
-OPTIONS = ("--sessions", str(SEATS), "--stay", "1", "--idle", "2", "--questions", "1", "--workers", "1", "--mutators", str(HONEST + 1))
+OPTIONS = ("--stay", "1", "--idle", "2", "--questions", "1", "--workers", "1", "--mutators", str(HONEST + 1))
 # The lines of a write that the heap refuses, and of a definition that it refuses whole, with 680 fields.
 REFUSED, LONG = b"clear 0 9\n", b"class A -" + 680 * b" a:int" + b"\n"
 # How many lines wait for their replies, and how many bytes a client that doesn't read takes.
@@ -51,16 +50,6 @@ ENDING = re.compile(r"session [1-9][0-9]* (\w+)")
 TOLD = re.compile(rb"(heapdbg: dump \w+( \(\d+ times\))?\n){0,999}(heapdbg: nothing is told of further dumps\n)?")
 
 
-def connected(port, room=None):
-    """Returns a connection, with `room` bytes for what isn't read if that is given."""
-    client = socket.socket()
-    if room:
-        client.setsockopt(socket.SOL_SOCKET, socket.SO_RCVBUF, room)
-    client.settimeout(LIMIT)
-    client.connect(("127.0.0.1", port))
-    return client
-
-
 def until_ended(client):
     """Reads until the other side closes."""
     client.settimeout(None)
@@ -70,20 +59,20 @@ def until_ended(client):
 
 def stalled(port, _):
     """Sends half a line."""
-    with connected(port) as client:
+    with connection(port) as client:
         client.sendall(b"put 0 0 1")
         until_ended(client)
 
 
 def half_open(port, _):
     """Sends nothing."""
-    with connected(port) as client:
+    with connection(port) as client:
         until_ended(client)
 
 
 def slow(port, _):
     """Sends twenty bytes a second."""
-    with connected(port) as client:
+    with connection(port) as client:
         for byte in b"what is this\n" * 100:
             client.sendall(bytes((byte,)))
             time.sleep(0.05)
@@ -91,7 +80,7 @@ def slow(port, _):
 
 def flooding(port, _, line=REFUSED, ahead=AHEAD):
     """Sends lines whose replies are a line each: `ahead` lines before the first reply, and then another one for each reply."""
-    with connected(port) as client:
+    with connection(port) as client:
         client.sendall(line * ahead)
         while come := client.recv(1 << 16):
             client.sendall(line * come.count(b"\n"))
@@ -115,7 +104,7 @@ def acting(port, dumps):
 def browsing(port, dumps):
     """Sends a request with lines to both ports."""
     for each in (port, dumps):
-        with connected(each) as client:
+        with connection(each) as client:
             client.sendall(b"POST / HTTP/1.1\r\nHost: a\r\nContent-Length: 13\r\n\r\nrewind 2\nend\n")
             until_ended(client)
     time.sleep(0.05)
@@ -123,7 +112,7 @@ def browsing(port, dumps):
 
 def unread(port, _):
     """Asks for dumps, and reads nothing."""
-    with connected(port, ROOM) as client:
+    with connection(port, ROOM) as client:
         client.settimeout(None)
         client.sendall(b"dump -\n" * 10_000)
         time.sleep(LIMIT)
@@ -131,14 +120,14 @@ def unread(port, _):
 
 def unread_dump(_, dumps):
     """Reads nothing of a dump."""
-    with connected(dumps, ROOM):
+    with connection(dumps, ROOM):
         time.sleep(LIMIT)
 
 
 def reset(port, dumps):
     """Opens a pin, and asks for a dump, and resets both connections."""
     for each in (port, dumps):
-        client = connected(each)
+        client = connection(each)
         client.sendall(b"open -\nput 0 0 1") if each == port else None
         client.setsockopt(socket.SOL_SOCKET, socket.SO_LINGER, struct.pack("ii", 1, 0))
         client.close()
@@ -148,7 +137,7 @@ def reset(port, dumps):
 def scanning(port, dumps):
     """Connects to both ports ten times, and closes at once."""
     for each in (port, dumps) * 10:
-        connected(each).close()
+        connection(each).close()
     time.sleep(0.2)
 
 
@@ -176,7 +165,7 @@ class Honest:
     """A session that writes a slot of its mutator's object."""
 
     def __init__(self, port, number):
-        self.client = connected(port)
+        self.client = connection(port)
         self.client.setsockopt(socket.IPPROTO_TCP, socket.TCP_NODELAY, 1)
         self.answers = self.client.makefile("rb")
         self.number, self.wrong = number, []
@@ -259,7 +248,7 @@ def fetched(port):
     """Returns how many milliseconds it took until a whole dump had come, while clients that have gone may still hold all pins."""
     began, dump = time.perf_counter(), b""
     while not dump.endswith(END) and time.perf_counter() - began < LIMIT:
-        with contextlib.suppress(ConnectionResetError), connected(port) as client:
+        with contextlib.suppress(ConnectionResetError), connection(port) as client:
             dump = b"".join(iter(lambda: client.recv(1 << 16), b""))
     return 1000 * (time.perf_counter() - began)
 
@@ -278,22 +267,21 @@ def others(port, dumps, kinds):
             child.communicate()
 
 
-class Server:
-    """The program, whose lines are read as they come."""
+class HeardServer(DumpServer):
+    """A `serve` for these clients, whose lines are read as they come."""
 
     def __init__(self, program):
-        self.port, self.dumps = free_port(), free_port()
-        line = [*program, "serve", "--port", str(self.port), "--dumps", str(self.dumps), *OPTIONS]
-        self.child = subprocess.Popen(line, stdout=subprocess.PIPE, stderr=subprocess.PIPE)
+        super().__init__(program, SEATS, *OPTIONS)
         self.said = [b"", b""]
-        self.readers = [threading.Thread(target=self.read, args=it) for it in enumerate((self.child.stdout, self.child.stderr))]
+        self.readers = [threading.Thread(target=self.read, args=it) for it in enumerate((self.run.stdout, self.run.stderr))]
         for reader in self.readers:
             reader.start()
-        end = time.monotonic() + LIMIT
-        while time.monotonic() < end:
-            with contextlib.suppress(ConnectionRefusedError):
-                return connected(self.dumps).close()
-            time.sleep(0.02)
+
+    def __exit__(self, *_):
+        self.run.kill()
+        for reader in self.readers:
+            reader.join(LIMIT)
+        super().__exit__()
 
     def read(self, at, stream):
         """Reads what the program says."""
@@ -302,11 +290,11 @@ class Server:
 
     def faults(self):
         """Ends the program, and yields what is wrong with its end."""
-        self.child.send_signal(signal.SIGTERM)
+        self.run.send_signal(signal.SIGTERM)
         try:
-            self.child.wait(LIMIT)
+            self.run.wait(LIMIT)
         except subprocess.TimeoutExpired:
-            self.child.kill()
+            self.run.kill()
             yield "the program didn't end at a signal"
         for reader in self.readers:
             reader.join(LIMIT)
@@ -353,7 +341,7 @@ def watched(server, looks):
 
     def watch():
         while not ended.wait(0.1):
-            looks.append(memory(server.child))
+            looks.append(memory(server.run))
 
     thread = threading.Thread(target=watch)
     thread.start()
@@ -388,7 +376,7 @@ def clients(port):
 def tried(server, honest, seconds):
     """Returns what the honest clients measure, by name; the memory of the program beside hostile clients; and when a whole dump came
     after them."""
-    looks = [memory(server.child)]
+    looks = [memory(server.run)]
     measured(honest, 0.2)
     found = {"alone": measured(honest, seconds / 10)}
     with watched(server, looks):
@@ -402,8 +390,8 @@ def tried(server, honest, seconds):
 
 def attempted(program, seconds):
     """Has the clients work. Returns the faults, and the measurements."""
-    server = Server(program)
-    try:
+    with HeardServer(program) as server:
+        server.dump_client().close()
         with clients(server.port) as honest:
             found, looks, took = tried(server, honest, seconds)
             wrong = [text for child in honest for text in json.loads(child.communicate(timeout=LIMIT)[0])]
@@ -411,8 +399,6 @@ def attempted(program, seconds):
         if took > (FETCH_MS if seconds >= MINUTE else STILL_MS):
             wrong.append(f"a whole dump came after {took:.0f} ms")
         return [*wrong, *growths(looks, seconds), *server.faults()], (found, looks, took, server)
-    finally:
-        server.child.kill()
 
 
 def main(program, seconds):

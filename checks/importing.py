@@ -20,7 +20,8 @@ TOP = pathlib.Path(__file__).resolve().parent.parent
 sys.path[:0] = [str(TOP / "checks/page"), str(TOP / "checks/model")]
 
 from asking import Page  # noqa: E402
-from served import Server, exchanged, free_port  # noqa: E402
+from ports import free_port  # noqa: E402
+from servers import Server, exchanged  # noqa: E402
 
 LIMIT = 120
 SESSIONS = ("leak", "orders", "services", "point")

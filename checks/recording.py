@@ -10,7 +10,7 @@ import subprocess
 import sys
 import tempfile
 
-from served import LIMIT, TOP, Server
+from servers import LIMIT, TOP, Server
 
 from heapdbg import Pin, Session
 

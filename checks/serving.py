@@ -12,7 +12,7 @@ import sys
 import threading
 import time
 
-from served import LIMIT, Server, all_of
+from servers import LIMIT, Server, all_of
 
 # The number of cycles that the marker has to end.
 CYCLES = 200

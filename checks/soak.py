@@ -21,13 +21,12 @@ import pathlib
 import random
 import re
 import socket
-import subprocess
 import sys
 import threading
 import time
 
 import segments
-from ports import free_port
+from servers import DumpServer
 
 TOP = pathlib.Path(__file__).resolve().parent.parent
 sys.path.append(str(TOP / "clients/python"))
@@ -246,20 +245,6 @@ def memory(child):
     return int(found[1]) if found else 0
 
 
-def connected(port):
-    """Connects the clients, once the program listens."""
-    clients = []
-    end = time.monotonic() + LIMIT
-    while len(clients) < CLIENTS:
-        try:
-            clients.append(Client.connect(port, timeout=LIMIT))
-        except ConnectionRefusedError:
-            if time.monotonic() > end:
-                raise
-            time.sleep(0.02)
-    return clients
-
-
 def total(clients, name):
     """Returns a sum over all clients."""
     return sum(getattr(client, name) for client in clients)
@@ -283,22 +268,16 @@ def worked(child, clients, dumpers, seconds):
 
 def main(program, seconds):
     """Returns the exit status."""
-    port, second = free_port(), free_port()
-    line = [*program, "serve", "--port", str(port), "--sessions", str(CLIENTS), "--mutators", str(MUTATORS)]
-    line += ["--workers", "1", "--dumps", str(second), "--questions", "1", "--roll", str(int(ACTS > SAFE_ACTS))]
-    child = subprocess.Popen(line, stdout=subprocess.PIPE, stderr=subprocess.PIPE)
-    try:
-        clients = connected(port)
-        dumpers = [Dumper(second) for _ in range(DUMPERS)]
-        looks = worked(child, clients, dumpers, seconds)
-        out, error = child.communicate(timeout=LIMIT)
-    finally:
-        if child.poll() is None:
-            child.kill()
+    options = ["--mutators", str(MUTATORS), "--workers", "1", "--questions", "1", "--roll", str(int(ACTS > SAFE_ACTS))]
+    with DumpServer(program, CLIENTS, *options) as server:
+        server.waits()
+        clients = [Client.connect(server.port, timeout=LIMIT) for _ in range(CLIENTS)]
+        dumpers = [Dumper(server.dumps) for _ in range(DUMPERS)]
+        looks = worked(server.run, clients, dumpers, seconds)
+        status, words, error = server.ended(LIMIT)
     wrong = [text for client in (*clients, *dumpers) for text in client.wrong]
-    wanted = "".join(f"session {number} quit\n" for number in range(1, CLIENTS + 1)).encode()
-    if (child.returncode, out) != (0, wanted) or not TOLD.fullmatch(error):
-        wrong.append(f"the program ended with {child.returncode}, {out!r} and {error!r}")
+    if (status, words) != (0, ["quit"] * CLIENTS) or not TOLD.fullmatch(error):
+        wrong.append(f"the program ended with {status}, {words} and {error!r}")
     for text in wrong[:50]:
         print(text)
     if not QUIET:

@@ -22,7 +22,8 @@ TOP = pathlib.Path(__file__).resolve().parent.parent
 sys.path.append(str(TOP / "clients/python"))
 
 from heapdbg import Refused, Session  # noqa: E402
-from served import LIMIT, Server, all_of, exchanged, free_port  # noqa: E402
+from ports import free_port  # noqa: E402
+from servers import LIMIT, DumpServer, Server, all_of, exchanged  # noqa: E402
 
 EXAMPLE = (TOP / "examples/point.session").read_bytes()
 STEP = 1
@@ -507,40 +508,6 @@ def old_acts(program):
             found = all_of(client)
             writer.join(LIMIT)
             yield f"1,000,002 acts, {' '.join(options)}", (found, server.ended()), (b"ok\n" * 1_000_000 + rest, (0, ["quit"], b""))
-
-
-class DumpServer(Server):
-    """A `serve` of the program that sends dumps, too."""
-
-    def __init__(self, program, sessions, *options):
-        self.program, self.dumps = program, free_port()
-        super().__init__(program, sessions, "--dumps", str(self.dumps), *options)
-
-    def dump_client(self, room=None):
-        """Returns a connection to the port for dumps of a server that listens, which takes `room` bytes unread, if that is given."""
-        client = socket.socket()
-        if room:
-            client.setsockopt(socket.SOL_SOCKET, socket.SO_RCVBUF, room)
-        client.settimeout(LIMIT)
-        client.connect(("127.0.0.1", self.dumps))
-        return client
-
-    def dump(self):
-        """Returns all that a client of the port for dumps is sent."""
-        with self.dump_client() as client:
-            return all_of(client)
-
-    @contextlib.contextmanager
-    def fetching(self, path):
-        """Has `fetch` run, and ends it."""
-        words = ["heapdbg", "fetch", "--port", str(self.dumps), "--out", str(path)]
-        pipes = {"stdout": subprocess.PIPE, "stderr": subprocess.PIPE}
-        child = subprocess.Popen(words, executable=self.program, **pipes)
-        try:
-            yield child
-        finally:
-            child.kill()
-            child.communicate()
 
 
 def come(child):

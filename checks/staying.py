@@ -12,10 +12,9 @@ import select
 import signal
 import socket
 import struct
-import subprocess
 import sys
 
-from served import LIMIT, Server
+from servers import LIMIT, Server
 from serving import Client, begins_cycle
 
 # The clients that scan a port, and those that connect and say nothing.

@@ -15,8 +15,7 @@ import tempfile
 import time
 
 from dumping import full_server, numbers, waited
-from served import LIMIT, Server, all_of
-from sockets import DumpServer
+from servers import LIMIT, DumpServer, Server, all_of
 
 WORD = b"Zq7" + 13 * b"x"
 # The seconds of `--idle`, those in which a client has to say the word, those in which a session's dump has to be read on, and those by

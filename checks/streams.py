@@ -22,7 +22,8 @@ TOP = pathlib.Path(__file__).resolve().parent.parent
 sys.path[:0] = [str(TOP / "checks"), str(TOP / "checks/model"), str(TOP / "checks/program")]
 
 from cases import stored  # noqa: E402
-from clients import asked, connected, ended, ended_by, free_port, rest_of, served  # noqa: E402
+from clients import asked, connected, ended, ended_by, rest_of, served  # noqa: E402
+from ports import free_port  # noqa: E402
 from runs import EXAMPLE, EXAMPLE_REPLIES, POINT, POINT_DUMP, POINT_MADE, dump_of_longs  # noqa: E402
 from save_cases import received, saved_to  # noqa: E402
 from serve_cases import ARRAY  # noqa: E402

@@ -2,7 +2,7 @@
 """Compares the plain program with the model of `checks/model`: `check.py [COUNT [SEED]]`.
 
 Draws COUNT sessions (5 if it isn't given) of each kind that has no questions, from SEED on, gives them to the program, and
-runs those of `examples/cases`. Prints a line for each that is answered otherwise, and ends with status 1 if there is one."""
+runs those of `checks/sessions/cases`. Prints a line for each that is answered otherwise, and ends with status 1 if there is one."""
 import concurrent.futures
 import importlib.util
 import os
@@ -47,7 +47,7 @@ def checked(kind, seed, program):
 
 def case_faults(program):
     """Returns a line for each case that the program answers otherwise."""
-    for session in sorted((TOP / "examples/cases").glob("*.session")):
+    for session in sorted((TOP / "checks/sessions/cases").glob("*.session")):
         words = session.with_suffix(".args")
         answers, _ = ran(program, words.read_text().split() if words.exists() else [], session.read_bytes())
         if answers != session.with_suffix(".expected").read_bytes():

@@ -3,7 +3,7 @@ import contextlib
 import socket
 
 from dump import pieces_of
-from served import LIMIT
+from servers import LIMIT
 
 
 class Page:

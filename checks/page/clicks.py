@@ -8,7 +8,7 @@ import tempfile
 import browser
 from paged import KEEP
 from segments import Dump
-from served import LIMIT
+from servers import LIMIT
 
 TOP = pathlib.Path(__file__).resolve().parent.parent.parent
 STORY = TOP / "examples/leak.session"

@@ -9,7 +9,8 @@ import tempfile
 from asking import Page, dumped
 from machine import Machine
 from questions import Asking
-from served import LIMIT, TOP, free_port
+from ports import free_port
+from servers import LIMIT, TOP
 
 # What the session says, line by line.
 LINES = (b"class Point - x:int y:int", b"new 0 0 0", b"put 0 0 0 7", b"new 0 1 0", b"snap", b"rewind 1", b"open -", b"collect")
@@ -115,12 +116,12 @@ def lines_first(program):
 
 def same_answers(program):
     """Yields each stored session with a page, and what it is answered without one."""
-    for path in sorted(TOP.glob("examples/questions/*.session")):
+    for path in sorted(TOP.glob("checks/sessions/questions/*.session")):
         served = path.with_suffix(".served")
         answers = (served if served.exists() else path.with_suffix(".expected")).read_bytes()
         words = ["explore", "--page", str(free_port())]
         yield f"{path.stem} beside a page", ran(program, words, path.read_bytes()), (0, answers, b"", 1)
-    for path in sorted(TOP.glob("examples/cases/*.session")):
+    for path in sorted(TOP.glob("checks/sessions/cases/*.session")):
         file = path.with_suffix(".args")
         words = file.read_text().split() if file.exists() else []
         alone = ran(program, ["explore", *words], path.read_bytes())

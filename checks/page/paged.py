@@ -3,7 +3,8 @@ import re
 import threading
 
 from asking import Page
-from served import Server, free_port
+from ports import free_port
+from servers import Server
 
 KEEP = 4096
 

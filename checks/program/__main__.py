@@ -3,18 +3,21 @@
 Usage: checks/program PROGRAM ..
 Prints a line for each difference and ends with status 1 if there is one. Prints nothing where all is well."""
 import os
+import pathlib
 import sys
 
-from area_cases import areas
-from explore_cases import questions
-from file_cases import written_files
-from line_cases import bad_lines
-from picture_cases import pictures
-from reason_cases import reasons
-from run_cases import faults, lines_at_the_limits, sessions, would_block
-from save_cases import saved_faults, saved_files, saved_on_terminals, saved_to_listeners, saved_to_long_names
-from secret_cases import guarded, refused_files
-from serve_cases import (
+sys.path.append(str(pathlib.Path(__file__).resolve().parent.parent))
+
+from area_cases import areas  # noqa: E402
+from explore_cases import questions  # noqa: E402
+from file_cases import written_files  # noqa: E402
+from line_cases import bad_lines  # noqa: E402
+from picture_cases import pictures  # noqa: E402
+from reason_cases import reasons  # noqa: E402
+from run_cases import faults, lines_at_the_limits, sessions, would_block  # noqa: E402
+from save_cases import saved_faults, saved_files, saved_on_terminals, saved_to_listeners, saved_to_long_names  # noqa: E402
+from secret_cases import guarded, refused_files  # noqa: E402
+from serve_cases import (  # noqa: E402
     asking,
     pins_of_ended_sessions,
     served_faults,
@@ -24,9 +27,9 @@ from serve_cases import (
     tended,
     worked,
 )
-from settings_cases import kept_by_default, options_without_values, settings_shown, sizes_by_names
-from terminal_cases import at_a_terminal
-from wide_cases import wide_heaps
+from settings_cases import kept_by_default, options_without_values, settings_shown, sizes_by_names  # noqa: E402
+from terminal_cases import at_a_terminal  # noqa: E402
+from wide_cases import wide_heaps  # noqa: E402
 
 
 def differences(program):

@@ -1,17 +1,10 @@
 """Clients of the program, and runs of `serve` and `ask`."""
-import contextlib
-import pathlib
 import socket
-import subprocess
-import sys
 import threading
 import time
 
 from runs import SECONDS, run
-
-sys.path.append(str(pathlib.Path(__file__).resolve().parent.parent))
-
-from ports import free_port  # noqa: E402
+from servers import Server, connected
 
 
 def told_all(lines):
@@ -26,25 +19,6 @@ def told_all(lines):
             return (got,)
 
     return clients
-
-
-def connected(port, room=None):
-    """Returns a client of the port, which may not be listened on yet; its buffer for what comes has `room` bytes, if that is
-    given."""
-    end = time.monotonic() + SECONDS
-    while True:
-        client = socket.socket()
-        client.settimeout(SECONDS)
-        if room:
-            client.setsockopt(socket.SOL_SOCKET, socket.SO_RCVBUF, room)
-        try:
-            client.connect(("127.0.0.1", port))
-            return client
-        except ConnectionRefusedError:
-            client.close()
-            if time.monotonic() > end:
-                raise
-            time.sleep(0.01)
 
 
 def answered(client, lines, size):
@@ -96,18 +70,10 @@ def asked(program, port, given, task="ask", words=(), **how):
 
 def served(program, clients, words=(), **how):
     """Returns what happened to a run of `serve`, and then what its clients return, which are given its port."""
-    port = free_port()
-    how.setdefault("stdout", subprocess.PIPE)
-    line = ["heapdbg", "serve", "--port", str(port), *words]
-    child = subprocess.Popen(line, executable=program, stderr=subprocess.PIPE, **how)
-    try:
-        got = clients(port)
-        out, error = child.communicate(timeout=SECONDS)
-        return (child.returncode, out or b"", error, *got)
-    finally:
-        if child.poll() is None:
-            child.kill()
-            child.communicate()
+    with Server(program, None, *words, **how) as server:
+        got = clients(server.port)
+        out, error = server.run.communicate(timeout=SECONDS)
+        return (server.run.returncode, out or b"", error, *got)
 
 
 def ended(lines):

@@ -1,5 +1,5 @@
-"""Cases of `explore` and of `run` with questions: examples/questions/NAME.session with what it must be answered in NAME.expected, and by
-`explore`, if that differs, in NAME.explored."""
+"""Cases of `explore` and of `run` with questions: checks/sessions/questions/NAME.session with what it must be answered in
+NAME.expected, and by `explore`, if that differs, in NAME.explored."""
 import os
 import pathlib
 import tempfile
@@ -109,7 +109,7 @@ def files_first(program):
 def questions(program):
     """Yields sessions with questions as (name, what happened, what must happen)."""
     yield "explore on the example", run(program, ["explore"], EXAMPLE), (0, EXAMPLE_REPLIES, b"")
-    for path in sorted(TOP.glob("examples/questions/*.session")):
+    for path in sorted(TOP.glob("checks/sessions/questions/*.session")):
         answers, explored = path.with_suffix(".expected"), path.with_suffix(".explored")
         wanted = (explored if explored.exists() else answers).read_bytes()
         with tempfile.TemporaryDirectory() as folder:

@@ -5,7 +5,8 @@ import resource
 import signal
 import tempfile
 
-from clients import ended, free_port, served
+from clients import ended, served
+from ports import free_port
 from runs import POINT, POINT_DUMP, POINT_MADE, bytes_of, run, run_by_terminal
 
 # Lines that change the state in several ways, with a pin on the state after the third step. A cycle is left half done.

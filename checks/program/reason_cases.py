@@ -4,7 +4,7 @@ import re
 import socket
 import tempfile
 
-from clients import free_port
+from ports import free_port
 from runs import POINT, POINT_MADE, run, run_by_terminal
 
 NOTHING = b"No such file or directory"

@@ -8,7 +8,8 @@ import tempfile
 import threading
 import time
 
-from clients import free_port, rest_of
+from clients import rest_of
+from ports import free_port
 from runs import (
     EMPTY_DUMP,
     EXAMPLE,

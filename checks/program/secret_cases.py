@@ -4,7 +4,8 @@ import os
 import pathlib
 import tempfile
 
-from clients import asked, connected, free_port, rest_of, served
+from clients import asked, connected, rest_of, served
+from ports import free_port
 from runs import POINT, POINT_DUMP, POINT_MADE, run
 
 WORD = b"0123456789abcdefghijKLMNOPQRSTUVWXYZ"

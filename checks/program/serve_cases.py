@@ -4,8 +4,10 @@ import socket
 import subprocess
 import threading
 
-from clients import answered, asked, connected, ended, ended_by, free_port, repeated, reply_of, rest_of, served
+from clients import answered, asked, connected, ended, ended_by, repeated, reply_of, rest_of, served
+from ports import free_port
 from runs import EXAMPLE, EXAMPLE_REPLIES, MEBIBYTE, POINT, POINT_MADE, SECONDS, TOP, dump_of_longs, files, limited, run
+from servers import Server
 
 
 def example_by_two(port):
@@ -201,7 +203,7 @@ def served_questions(program):
     """Yields sessions with questions over a shared heap as (name, what happened, what must happen)."""
     quit = (0, b"session 1 quit\n", b"")
     with_questions = ["--questions", "1"]
-    for path in sorted(TOP.glob("examples/questions/*.session")):
+    for path in sorted(TOP.glob("checks/sessions/questions/*.session")):
         served_file = path.with_suffix(".served")
         lines, answers = path.read_bytes(), (served_file if served_file.exists() else path.with_suffix(".expected")).read_bytes()
         yield f"{path.stem}, served", served(program, ended(lines + b"end\n"), with_questions), (*quit, answers)
@@ -244,12 +246,10 @@ MANY_DUMPS = b"dump -\n" * 3_000_000
 def listening_on_a_terminal(program):
     """Returns what `serve` says on a terminal that is its standard error, with PORT for its port, and its status."""
     terminal, error = os.openpty()
-    port = free_port()
-    words = ["heapdbg", "serve", "--port", str(port)]
-    with subprocess.Popen(words, executable=program, stdout=subprocess.DEVNULL, stderr=error) as child:
-        with connected(port) as client:
+    with Server(program, None, stdout=subprocess.DEVNULL, stderr=error) as server:
+        with server.client() as client:
             rest_of(client, b"end\n")
-        status = child.wait(SECONDS)
+        status = server.run.wait(SECONDS)
     os.set_blocking(terminal, False)
     try:
         shown = os.read(terminal, 65536)
@@ -257,7 +257,7 @@ def listening_on_a_terminal(program):
         shown = b""
     os.close(error)
     os.close(terminal)
-    return shown.replace(b"%d" % port, b"PORT"), status
+    return shown.replace(b"%d" % server.port, b"PORT"), status
 
 
 def served_on_terminals(program):

@@ -13,7 +13,7 @@ import tempfile
 import termios
 import time
 
-from clients import free_port
+from ports import free_port
 from runs import SECONDS, TOP, read_or_nothing, run
 
 
@@ -115,7 +115,7 @@ heapdbg 7> |
 
 
 # The forms of all lines, in the order of `help`, and the keywords of those that change nothing and make no file.
-FORMS = [row[4:] for row in (TOP / "examples/questions/help.explored").read_bytes().split(b"ok\n")[0].splitlines()]
+FORMS = [row[4:] for row in (TOP / "checks/sessions/questions/help.explored").read_bytes().split(b"ok\n")[0].splitlines()]
 HARMLESS = b"histogram garbage growth kept diff registers classes objects values referrers path paths retained dominators dominator show born wrote watch writes when dropped life history cycles pins cells regions status help".split()
 # Words that people type at other prompts, and words that are as near to two keywords.
 WORDS = b"undo find back exitt list info hist goto step print HISTOGRAM rewing reiwnd classs pars endd edn hlep".split()

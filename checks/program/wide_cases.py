@@ -2,7 +2,8 @@
 import os
 import tempfile
 
-from clients import ended, free_port, served, told_all
+from clients import ended, served, told_all
+from ports import free_port
 from explore_cases import run_after
 from run_cases import read_by_one
 from runs import run

@@ -298,7 +298,7 @@ class Calls:
 
     def retained(self, moment: Moment, of: int) -> list[ClassCount]:
         """Returns a `ClassCount` for each class of the objects that are reached, and wouldn't be without this one, itself
-        among them. What several objects retain may overlap."""
+        among them. Those of several objects may overlap."""
         return self.send(f"retained{about(moment)} {ObjectId(of)}", rows_by(counted))
 
     def dominators(self, moment: Moment = None, most: Optional[int] = None, of: Optional[int] = None) -> list[Holding]:

@@ -45,7 +45,7 @@ class ClassCount(NamedTuple):
 
 
 class Holding(NamedTuple):
-    """An object, how many objects it retains, itself among them, and their bytes: a row of `dominators`."""
+    """An object, how many objects it dominates, itself among them, and their bytes: a row of `dominators`."""
 
     id: ObjectId
     objects: int
@@ -239,7 +239,7 @@ class When(tuple):
 
 
 class PastStep(tuple):
-    """A retained step: (place, record, fact ..). SESSIONS.md has the facts of each record."""
+    """A retained step: (place, event, fact ..). SESSIONS.md has the facts of each event."""
 
     @property
     def place(self) -> int:

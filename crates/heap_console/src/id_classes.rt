@@ -1,4 +1,7 @@
 //! The classes of the objects whose ids an answer has.
+ghost use Rattle.std.specs.Prelude.{IsTrue};
+ghost use Rattle.question_words.specs.Names.{IsClassThere};
+
 use crate::columns::LINE_END;
 use heap_class::{FirstClasses, ObjKind, Refusal};
 use heap_questions::ObjectIndex;
@@ -128,7 +131,9 @@ fn add_name(
 }
 
 // Tells whether the class of an object of this kind is there.
-fn has_class(classes: &FirstClasses<'_>, kind: ObjKind) -> bool {
+fn has_class(classes: &FirstClasses<'_>, kind: ObjKind) -> bool
+    ensures { IsTrue result → IsClassThere classes.now kind }
+{
     match kind {
         ObjKind::Instance(class) | ObjKind::Array(class) => class < classes.len(),
         ObjKind::Prim(_) => true,

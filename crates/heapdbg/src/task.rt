@@ -21,9 +21,13 @@ use heapdbg_options::command_line::{path_option, settings};
 use heapdbg_options::line_words::borrow_words;
 use heapdbg_options::refusal::bad;
 use heapdbg_options::settings::{LineFault, Origin, Service, Settings, Target, Task};
+use private_tasks::draw::draw;
+use private_tasks::explore::explore;
+use private_tasks::run::run;
+use private_tasks::save::{out_file, peer, save};
 use private_tasks::{
-    Failure, Fault, Request, Screen, TerminalGauge, Terminals, draw, explore, missing_folder,
-    out_file, peer, run, save, secret_for, tell_path,
+    Failure, Fault, Request, Screen, TerminalGauge, Terminals, missing_folder, secret_for,
+    tell_path,
 };
 use secret_word::Secret;
 use session_text::{Inlet, ReadInlet};

@@ -3,8 +3,8 @@
 #![tactic(auto)]
 
 mod asked_run;
-mod draw;
-mod explore;
+pub mod draw;
+pub mod explore;
 mod failure;
 mod first_dump;
 mod first_lines;
@@ -14,21 +14,17 @@ mod own_files;
 mod progress;
 mod reasons;
 mod request;
-mod run;
-mod save;
+pub mod run;
+pub mod save;
 mod second_dump;
 mod secret_file;
 mod terminals;
 
-pub use draw::draw;
-pub use explore::explore;
 pub use failure::{Failure, Fault, outcome, report};
 pub use first_lines::run_first;
 pub use folder::missing_folder;
 pub use progress::{ProgressLine, TerminalGauge};
 pub use reasons::{tell_path, tell_port};
 pub use request::Request;
-pub use run::run;
-pub use save::{Destination, OutFile, OutPort, out_file, peer, save};
 pub use secret_file::secret_for;
 pub use terminals::{Screen, Terminals};

@@ -1,0 +1,4 @@
+pub mod ToldObjects
+pub mod TakenEvents
+pub mod DumpHeaps
+pub mod Laws

@@ -1,0 +1,4 @@
+pub mod Items
+pub mod Parts
+pub mod Images
+pub mod Laws

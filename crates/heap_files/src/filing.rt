@@ -53,7 +53,7 @@ impl<'a, F: Folder> Filing<'a, F> {
           folder = folder;
           time = time;
           limits = limits;
-          hinting = hinting;
+          hinting = hinting.entry;
         } }
     {
         asking.watch.note_files();

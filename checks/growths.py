@@ -53,7 +53,7 @@ QUESTIONS = """class Node - next:object v:long, array Nodes, new 0 0 0, new 0 1 
     history 9, history @9 3, life 0x10000000, cycles, pins, cells, regions, status, show 0x10000060 1 1, when count 0 2,
     show 0x10000000.next, show @9 0x10000000.next.next 3, show 0x10000060.1 8, put 0 0 v 6, newarray 0 4 Nodes 2, rewind 2,
     rewind 3, forward 2, forward 9, name here, name there, name here, open @here, at @here, histogram, history 2,
-    write now.hprof, write @9 past.hprof, write 1 pin.hprof, draw now.svg, help"""
+    write now.hprof, write @9 past.hprof, write 1 pin.hprof, draw now.svg, open, growth, class Below Node w:int, class Twig Below, help"""
 
 # A session of a wide heap: as many classes and regions as make each table grow, names longer and pins more than other heaps allow, and a
 # cycle beside these pins.

@@ -46,17 +46,22 @@ def hunts():
     return found
 
 
-def rows_of(shown):
-    """Returns the lines of an answer of the page without heading and columns."""
-    rows = [line.split() if line.startswith(b"  ") else [line] for line in shown]
+# How many words the rows of some questions have in replies, where a terminal shows a class behind them.
+WORDS = {b"show": 4, b"path": 3}
+
+
+def rows_of(line, shown):
+    """Returns the answer of the page to a line, without heading and columns, and without the classes that replies leave out."""
+    rows = [row.split() if row.startswith(b"  ") else [row] for row in shown]
     if rows and len(rows[0]) > 1 and all(word.isupper() for word in rows[0]):
         del rows[0]
-    return [b" ".join(row if len(row) == 1 else [b"row", *row]) for row in rows]
+    count = WORDS.get(line.split()[0])
+    return [b" ".join(row if len(row) == 1 else [b"row", *row[:count]]) for row in rows]
 
 
-def fits(came, wanted):
-    """Returns whether lines are those of the page, without its headings and columns."""
-    return has_parts(came, rows_of(wanted))
+def fits(line, came, wanted):
+    """Returns whether lines are those of the page that answer a line, without its headings and columns."""
+    return has_parts(came, rows_of(line, wanted))
 
 
 def has_parts(came, wanted):
@@ -115,7 +120,7 @@ def differences(programs, name, asked):
             if not answer.startswith(b"ok"):
                 yield f"{who}: {line!r} is answered {answer!r:.100}"
         for (line, wanted), answer in zip(asked, came[len(story) :]):
-            if not fits(answer.split(b"\n")[:-1], wanted):
+            if not fits(line, answer.split(b"\n")[:-1], wanted):
                 yield f"{who}: {line!r} is answered {answer!r:.300}"
 
 

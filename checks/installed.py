@@ -129,7 +129,7 @@ def answered_as(shell, command, asked):
     """Yields what the lines that a page types are answered otherwise than it says, by the command that it types."""
     status, out, error = shell.run(command, b"".join(line + b"\n" for line, _ in asked))
     came = groups(out)
-    wrong = [line for (line, wanted), got in zip(asked, came) if not fits(got, wanted)]
+    wrong = [line for (line, wanted), got in zip(asked, came) if not fits(line, got, wanted)]
     if status or error or wrong or len(came) != len(asked):
         yield f"{command!r}: status {status}, {len(came)} answers, others than the page has to {wrong[:2]}, {error!r:.100}"
 

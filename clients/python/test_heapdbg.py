@@ -371,8 +371,10 @@ class Columns(unittest.TestCase):
         self.assertEqual((row.slot, row.name, row.kind, row.value), (1, "v", "long", 7))
 
     def test_the_past(self):
-        (row,) = self.asked(lambda heap: heap.history(1), "row 9 put 0x00000008 1 7", "ok 1")
-        self.assertEqual((row.place, row.record, row.facts), (9, "put", (8, 1, 7)))
+        (row,) = self.asked(lambda heap: heap.history(1), "row 9 put 0x00000008 1 7 9", "ok 1")
+        self.assertEqual((row.place, row.record, row.facts), (9, "put", (8, 1, 7, 9)))
+        (row,) = self.asked(lambda heap: heap.history(1), "row 9 new 0x00000008 0 1 null 0x10", "ok 1")
+        self.assertEqual(row.facts, (8, 0, 1, None, "0x10"))
         found, older, reached = (self.asked(lambda heap: heap.dropped(8), f"ok {text}") for text in ("place 3", "older 4", "reached"))
         self.assertEqual([(each.word, each.place) for each in (found, older, reached)], [("place", 3), ("older", 4), ("reached", None)])
         (place, never) = (self.asked(lambda heap: heap.when(0, 1, 7), f"ok {text}") for text in ("place 3", "never"))
@@ -674,8 +676,8 @@ class Names(unittest.TestCase):
             heap.clear(0, 2)
             self.assertEqual(heap.garbage(), [(1, 12, "0xyz")])
             self.assertEqual((heap.retained(None, ids[2]), heap.retained("@16", ids[2])), ([], [(1, 12, "0xyz")]))
-            self.assertEqual(heap.history(1), [(17, "reg", 0, 2, ids[2])])
-            self.assertEqual(heap.history(1, Place(16)), [(16, "new", ids[7], 0, 7, None)])
+            self.assertEqual(heap.history(1), [(17, "reg", 0, 2, ids[2], None)])
+            self.assertEqual(heap.history(1, Place(16)), [(16, "new", ids[7], 0, 7, None, self.ODD[7])])
             self.assertEqual(heap.objects(None, 2), [(ids[2], "0xyz", 2, True)])
             self.assertEqual(heap.objects(Place(16), 2, 0, 0), [(ids[2], "0xyz", 2, False)])
             self.assertEqual([heap.objects(None, 2, 0, value) for value in (1, ids[3])], [[], []])
@@ -688,7 +690,7 @@ class Names(unittest.TestCase):
     def test_elements_supers_and_moments(self):
         with session("--questions", "1") as heap:
             heap.define_class("null", [("next", "object")])
-            heap.define_class("2024", sup=0)
+            heap.define_class("2024", sup="null")
             heap.define_array("[null;")
             self.assertEqual(heap.classes()[1:], [(1, "2024", 0), (2, "[null;", "array")])
             array = heap.new_array(0, 0, 2, 2)

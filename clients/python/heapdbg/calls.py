@@ -115,10 +115,10 @@ class Calls:
 
     # ---- classes and objects
 
-    def define_class(self, name: str, fields: Sequence[tuple[str, str]] = (), sup: Optional[int] = None) -> int:
-        """Defines a class with fields (name, kind), and returns its number."""
+    def define_class(self, name: str, fields: Sequence[tuple[str, str]] = (), sup: Optional[Name] = None) -> int:
+        """Defines a class with fields (name, kind), below another if one is given, and returns its number."""
         texts = [word_of(f"{field}:{kind}") for field, kind in fields]
-        return self.send(" ".join(["class", word_of(name), "-" if sup is None else str(sup), *texts]), number)
+        return self.send(" ".join(["class", word_of(name), "-" if sup is None else word_of_name(sup), *texts]), number)
 
     def define_array(self, name: str) -> int:
         """Defines a class of object arrays, and returns its number."""

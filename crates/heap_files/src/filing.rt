@@ -7,6 +7,7 @@ ghost use Rattle.heap_files.specs.Files.{written_text};
 
 use crate::files::{Unwritten, write_dump, write_picture, written_line};
 use crate::folder::Folder;
+use heap_console::Hinting;
 use heap_step::IntoEvent;
 use heap_trail::{Action, Reply};
 use question_grammar::{FileContent, FileLine, file_in};
@@ -24,19 +25,43 @@ pub struct Filing<'a, F> {
     pub folder: F,
     /// The time in the header of each dump, in milliseconds since 1970.
     pub time: u64,
+    /// What tells a person beside the session what answers leave out.
+    pub hinting: Hinting<'a>,
 }
 
 impl<'a, F: Folder> Filing<'a, F> {
     /// Creates commands that make files in a folder, and tells readers beside the session that its lines write files.
-    pub fn new(asking: Asking<'a>, folder: F, time: u64) -> Filing<'a, F>
-        ensures { result ≡ record { asking = asking.entry; folder = folder; time = time } }
+    pub fn new(asking: Asking<'a>, folder: F, time: u64, hinting: Hinting<'a>) -> Filing<'a, F>
+        ensures { result ≡ record {
+          asking = asking.entry;
+          folder = folder;
+          time = time;
+          hinting = hinting.entry;
+        } }
     {
         asking.watch.note_files();
         Filing {
             asking,
             folder,
             time,
+            hinting,
         }
+    }
+
+    // Tells of a reply.
+    fn tell_reply(&self, reply: &Reply) {
+        self.hinting.note_reply(&self.asking.local.machine, reply);
+    }
+
+    // Tells of the answer to a line.
+    fn tell_answer(&self, alloc: Global, line: &[u8], answer: &LineAnswer) {
+        let Asking {
+            local,
+            bookmarks,
+            ..
+        } = &self.asking;
+        self.hinting
+            .note_answer(alloc, &local.machine, bookmarks, line, answer);
     }
 
     // Answers a line that the grammar of sessions doesn't know.
@@ -110,15 +135,21 @@ impl<F: Folder> Commands for Filing<'_, F> {
 
     #[inline(always)]
     fn act(&mut self, action: Action) -> Reply {
-        self.asking.act(action)
+        let reply = self.asking.act(action);
+        self.tell_reply(&reply);
+        reply
     }
 
     #[inline(always)]
     fn step<E: IntoEvent>(&mut self, event: E) -> Reply {
-        self.asking.step(event)
+        let reply = self.asking.step(event);
+        self.tell_reply(&reply);
+        reply
     }
 
     fn answer_unknown(&mut self, alloc: Global, line: &[u8]) -> LineAnswer {
-        self.answer_line(alloc, line)
+        let answer = self.answer_line(alloc, line);
+        self.tell_answer(alloc, line, &answer);
+        answer
     }
 }

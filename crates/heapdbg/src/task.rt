@@ -107,7 +107,7 @@ where
     let input = ReadInlet::new(rt.reader());
     let writer = WriteOutlet::new(io::writer(rt));
     if shows {
-        let mut writer = ColumnOutlet::new(rt.alloc(), &screen.console.heading, writer);
+        let mut writer = ColumnOutlet::new(rt.alloc(), screen.console, writer);
         perform_words(rt, words, reader, input, &mut writer, screen)
     } else {
         let mut writer = writer;

@@ -175,7 +175,7 @@ own_files =
 
 -- commands with questions, whose lines write such files
 abbrev pub with_files : Asking → ℕ → Filing (Unit {0})
-with_files c time = record { asking = c; folder = tt; time = time }
+with_files c time = record { asking = c; folder = tt; time = time; hinting = tt }
 
 -- the same session, whose lines also write files
 abbrev pub IsExplored : Origin → Settings → Incoming → Incoming → Outgoing → Outgoing

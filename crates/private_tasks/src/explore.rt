@@ -12,6 +12,7 @@ use crate::own_files::OwnFiles;
 use crate::request::Request;
 use crate::terminals::Screen;
 use dump_pump::Outlet;
+use heap_console::Hinting;
 use heap_files::{Filing, serve_filing};
 use heapdbg_options::settings::{Origin, Settings};
 use question_text::{Asking, Watch};
@@ -37,20 +38,19 @@ pub fn explore<R: AllocGlobal + Clock + Eprint + Files, I: Inlet, O: Outlet>(
     ensures { IsExplored origin request.entry.settings (I.seen reader.old) (I.seen reader.new)
         (O.seen writer.old) (O.seen writer.new) result }
 {
-    let is_terminal = screen.is_terminal;
     match open(rt.alloc(), &request.settings, &screen.console.watch) {
-        Ok(asking) => explore_on(rt, request, origin, is_terminal, asking, reader, writer),
+        Ok(asking) => explore_on(rt, request, origin, screen, asking, reader, writer),
         Err(fault) => Err(fault),
     }
 }
 
 // Runs one session over a heap as it begins, after what `origin` says.
-fn explore_on<R: AllocGlobal + Clock + Eprint + Files, I: Inlet, O: Outlet>(
+fn explore_on<'a, R: AllocGlobal + Clock + Eprint + Files, I: Inlet, O: Outlet>(
     rt: &R,
     request: Request<'_>,
     origin: Origin,
-    is_terminal: bool,
-    asking: Asking<'_>,
+    screen: Screen<'a>,
+    asking: Asking<'a>,
     reader: &mut I,
     writer: &mut O,
 ) -> Result<(), Fault>
@@ -58,9 +58,11 @@ fn explore_on<R: AllocGlobal + Clock + Eprint + Files, I: Inlet, O: Outlet>(
     ensures { IsExplored origin request.entry.settings (I.seen reader.old) (I.seen reader.new)
         (O.seen writer.old) (O.seen writer.new) result }
 {
+    let is_terminal = screen.is_terminal;
     let asking = run_first(rt, request, origin, is_terminal, asking)?;
     let Settings { time, wide, .. } = request.settings;
-    let mut filing = Filing::new(asking, OwnFiles::new(rt, is_terminal), time);
+    let files = OwnFiles::new(rt, is_terminal);
+    let mut filing = Filing::new(asking, files, time, Hinting::new(&screen.console.hints));
     let limits = session_limits(wide);
     let ended = serve_filing(rt.alloc(), reader, writer, &mut filing, limits);
     outcome(ended)

@@ -16,7 +16,7 @@ use Rattle.question_grammar.specs.declared.question.Question.{Question}
 use Rattle.question_text.specs.Answers.{IsAnswerAlong, IsAnswerOf}
 use Rattle.question_grammar.specs.Bookmarks.{Bookmarks}
 use Rattle.question_grammar.specs.Chains.{chain_of, chain_of_words}
-use Rattle.question_grammar.specs.EventNames.{event_by_name, event_of_words}
+use Rattle.question_grammar.specs.EventNames.{event_by_name, event_of_words, object_event_by_name}
 use Rattle.question_grammar.specs.NoteLines.{name_set_by, place_opened_by, place_set_by, word_behind}
 use Rattle.question_grammar.specs.Orders.{order_in, order_of_two, order_of_words}
 use Rattle.question_text.specs.Comments.{is_comment, is_comment_words, unasked_text}
@@ -72,7 +72,7 @@ comment_is_no_order bm v [] = refl
 comment_is_no_order bm v (w ∷ ws) = refl
 
 comment_is_no_event : (state : HeapState) (v : List ℕ) (ws : List (List ℕ)) → event_of_words state ((35 ∷ v) ∷ ws) ≡ None
-unfolding event_by_name
+unfolding event_by_name object_event_by_name
 comment_is_no_event state v ws = refl
 
 orders_none : (bm : Bookmarks) (state : HeapState) (l : List ℕ) → is_comment l ≡ true → order_in bm state l ≡ None
@@ -87,10 +87,7 @@ chains_none : (bm : Bookmarks) (l : List ℕ) → is_comment l ≡ true → chai
 chains_none bm l e = of_comment (chain_of_words bm) (comment_is_no_chain bm) (words_of_line l) e
 
 opens_none : (bm : Bookmarks) (v : List ℕ) (ws : List (List ℕ)) → place_opened_by bm ((35 ∷ v) ∷ ws) ≡ None
-unfolding word_behind
-opens_none bm v [] = refl
-opens_none bm v (w ∷ []) = refl
-opens_none bm v (w ∷ u ∷ ws) = refl
+opens_none bm v ws = refl
 
 places_none : (bm : Bookmarks) (v : List ℕ) (ws : List (List ℕ)) → place_set_by bm ((35 ∷ v) ∷ ws) ≡ None
 unfolding word_behind

@@ -6,7 +6,7 @@ use Rattle.std.proofs.lemmas.Slice.Eq.{bytes_eq-Decides}
 use Rattle.heap_world.specs.State.{HeapState}
 use Rattle.session_grammar.specs.Grammar.{access_rules, by_rule, class_rules, making_rules, marking_rules, session_rules, words_of_line}
 use Rattle.question_grammar.specs.Bookmarks.{Bookmarks}
-use Rattle.question_grammar.specs.EventNames.{event_by_name}
+use Rattle.question_grammar.specs.EventNames.{event_by_name, object_event_by_name}
 use Rattle.question_grammar.specs.FileLines.{dump_and_path, file_by, file_of, file_of_words, picture_and_path}
 use Rattle.question_grammar.specs.NamedLines.{named_question_of_words, named_rules}
 use Rattle.question_grammar.specs.NoteLines.{name_set_by, place_opened_by, place_set_by, word_behind}
@@ -46,15 +46,15 @@ said_of_file bm says one two draw (w ∷ ws) f e = go (bytes_eq w (codes "write"
 -- ---- no other line
 
 write_alone : (bm : Bookmarks) (state : HeapState) (v : List ℕ) → AreAlone bm state (codes "write" ∷ v ∷ [])
-unfolding by_rule class_rules making_rules access_rules marking_rules session_rules order_of_words order_of_two event_by_name question_of_words question_rules past_rules named_question_of_words named_rules
+unfolding by_rule class_rules making_rules access_rules marking_rules session_rules order_of_words order_of_two event_by_name object_event_by_name question_of_words question_rules past_rules named_question_of_words named_rules
 write_alone bm state v = record { command = refl; order = refl; event = refl; question = refl; named = refl; chain = refl; help = refl }
 
 write_at_alone : (bm : Bookmarks) (state : HeapState) (v u : List ℕ) → AreAlone bm state (codes "write" ∷ v ∷ u ∷ [])
-unfolding by_rule class_rules making_rules access_rules marking_rules session_rules order_of_words order_of_two event_by_name question_of_words question_rules past_rules named_question_of_words named_rules
+unfolding by_rule class_rules making_rules access_rules marking_rules session_rules order_of_words order_of_two event_by_name object_event_by_name question_of_words question_rules past_rules named_question_of_words named_rules
 write_at_alone bm state v u = record { command = refl; order = refl; event = refl; question = refl; named = refl; chain = refl; help = refl }
 
 draw_alone : (bm : Bookmarks) (state : HeapState) (v : List ℕ) → AreAlone bm state (codes "draw" ∷ v ∷ [])
-unfolding by_rule class_rules making_rules access_rules marking_rules session_rules order_of_words order_of_two event_by_name question_of_words question_rules past_rules named_question_of_words named_rules
+unfolding by_rule class_rules making_rules access_rules marking_rules session_rules order_of_words order_of_two event_by_name object_event_by_name question_of_words question_rules past_rules named_question_of_words named_rules
 draw_alone bm state v = record { command = refl; order = refl; event = refl; question = refl; named = refl; chain = refl; help = refl }
 
 pub file_alone : (bm : Bookmarks) (state : HeapState) (l path : List ℕ) (content : FileContent) → file_of bm l ≡ Some (content, path) → IsAlone bm state l

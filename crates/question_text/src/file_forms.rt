@@ -79,8 +79,8 @@ pub fn file_keyword_help(word: &[u8]) -> Option<&'static [u8]>
     ensures { option_map (λ t. t.now) result ≡ form_with file_forms word.now }
 {
     by_word!(word;
-        b"write" => Some(b"row write [AT] PATH\nrow write heap.hprof\nok\n"),
-        b"draw" => Some(b"row draw PATH\nrow draw heap.svg\nok\n"),
+        b"write" => Some(b"row write [AT] PATH\nrow write heap.hprof\nrow # writes the dump of a state to a new file\nok\n"),
+        b"draw" => Some(b"row draw PATH\nrow draw heap.svg\nrow # writes a picture of the regions to a new file\nok\n"),
         _ => None
     )
 }

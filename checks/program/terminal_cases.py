@@ -1,6 +1,7 @@
 """Cases of `explore` at a terminal: its prompt, its advice, rows in columns, and the script that runs it."""
 import fcntl
 import os
+import pathlib
 import pty
 import re
 import select
@@ -350,6 +351,53 @@ def beside_replies(program):
     yield "no more than replies on a pipe", piped, (0, rows, b"")
 
 
+# Lines of a session with logs: `FOLDER` is a folder. What it shows, and what its logs have.
+LOGGED = [
+    line + b"\n"
+    for line in b"""log FOLDER/a
+class A - x:int
+new 0 0 A
+log FOLDER/b
+show 0x10000000
+put 0 0 9 9
+log -
+pins
+log FOLDER/a
+quit""".split(b"\n")
+]
+LOGGED_SHOWN = b"""heapdbg 0> |ok
+heapdbg 0> |ok class 0
+heapdbg 1> |ok object 0x10000000
+heapdbg 2> |ok
+heapdbg 2> |  SLOT  NAME  KIND  VALUE
+     0  x     int       0
+ok object A 1
+heapdbg 2> |no 9 BadSlot
+there is one slot: 0
+heapdbg 2> |ok
+heapdbg 2> |ok 0
+heapdbg 2> |heapdbg: FOLDER/a: File exists
+no 31 NoFile
+heapdbg 2> |"""
+LOGS = {
+    "a": b"class A - x:int\n# ok class 0\nnew 0 0 A\n# ok object 0x10000000\nlog FOLDER/b\n",
+    "b": b"show 0x10000000\n# row 0 x int 0\n# ok object A 1\nput 0 0 9 9\n# no 9 BadSlot\nlog -\n",
+}
+
+
+def logged(program):
+    """Yields a session that logs as (name, what happened, what must happen), and one that runs its log again."""
+    with tempfile.TemporaryDirectory() as folder:
+        shown, status = typed(program, ["explore"], [line.replace(b"FOLDER", folder.encode()) for line in LOGGED])
+        files = {path.name: path.read_bytes().replace(folder.encode(), b"FOLDER") for path in pathlib.Path(folder).iterdir()}
+        happened = (shown.replace(folder.encode(), b"FOLDER"), status, files)
+        yield "logs of a session", happened, (LOGGED_SHOWN, 0, LOGS)
+        again = run(program, ["explore"], b"source FOLDER/a\nsource FOLDER/b\n".replace(b"FOLDER", folder.encode()))
+        replies = b"ok class 0\nok object 0x10000000\nbad command\nok place 2\n"
+        replies += b"row 0 x int 0\nok object A 1\nno 9 BadSlot\nbad command\nok place 2\n"
+        yield "logs that are run", again, (0, replies, b"")
+
+
 def by_script(program):
     """Yields what the script does that explores, with the program beside it, in the bin beside its folder, and on PATH, as (name,
     what happened, what must happen)."""
@@ -452,6 +500,7 @@ def at_a_terminal(program):
     yield "explore at a terminal", typed(program, ["explore"], TYPED), (SHOWN, 0)
     yield from advised(program)
     yield from beside_replies(program)
+    yield from logged(program)
     yield "states that aren't there", typed(program, ["explore", "--keep", "2"], STATES), (STATES_SHOWN, 0)
     yield from by_script(program)
     yield "an interrupt", typed(program, ["explore"], [b"frobnic\x03"])[1:], (-signal.SIGINT,)

@@ -57,7 +57,7 @@ WANTED = {
     "name": ("ok place", "bad"),
     "forward": ("ok place", "ok by a place's name", "no 24", "no 29"),
     "write": (*ABOUT_A_MOMENT, "no 31", "bad"),
-    "draw": ("no 31",),
+    "draw": ("no 31", "no 22", "no 23", "no 24"),
     "help": ("ok", "bad"),
     "comment": ("nothing",),
 }
@@ -66,7 +66,7 @@ LEAST = 3
 BY_NAMES = (b"class", b"newarray", b"load", b"store", b"put")
 # How often lines are asked.
 WEIGHTS = dict.fromkeys(QUESTIONS | FILES, 2) | dict.fromkeys(BY_NAMES, 1)
-WEIGHTS |= {b"show": 6, b"watch": 4, b"writes": 4, b"help": 2, b"name": 6, b"at": 4, b"dominators": 4, b"draw": 1}
+WEIGHTS |= {b"show": 6, b"watch": 4, b"writes": 4, b"help": 2, b"name": 6, b"at": 4, b"dominators": 4}
 # The questions about the steps up to a place.
 PAST = (b"born", b"wrote", b"watch", b"writes", b"when", b"dropped", b"history")
 

@@ -67,22 +67,29 @@ def states_written(program):
         second = last_dump(program, STEPS + b"open 2\ndump 2\n", words)
         before = last_dump(program, STEPS + b"rewind 2\ndump -\n", words)
         drawn_before = picture(program, STEPS + b"rewind 2\n", words)
+        drawn_second = picture(program, STEPS + b"rewind @2\n", words)
+        drawn_third = picture(program, STEPS + b"rewind @3\n", words)
         lines = (
             (b"write now", now),
             (b"  write   -  dash ", now),
             (b"write 1 pinned", pinned),
             (b"write @2 place", second),
             (b"draw drawn", drawn),
+            (b"draw - drawn-dash", drawn),
+            (b"draw @2 drawn-place", drawn_second),
+            (b"draw 1 drawn-pin", drawn_third.replace(b">place 3:", b">pin 1:")),
             (b"at @2", None),
             (b"write at.hprof", second),
             (b"write - dash-at", now),
-            (b"draw drawn-at", drawn),
+            (b"draw drawn-at", drawn_second),
+            (b"draw - drawn-dash-at", drawn),
             (b"at -", None),
             (b"rewind 2", None),
             (b"write before\r", before),
             (b"draw drawn-before", drawn_before),
             (b"name here", None),
             (b"write @here named", before),
+            (b"draw @here drawn-named", drawn_before),
         )
         given = STEPS + b"".join(line + b"\n" for line, _ in lines)
         files = {line.split()[-1].decode(): text for line, text in lines if text is not None}
@@ -113,14 +120,14 @@ def no_files(program):
     wanted = POINT_MADE + REFUSED * 4 + b"ok 301\n" + REFUSED * 2
     happened = explored(program, POINT + lines, there=["a"])
     yield "files that are there", happened, (0, wanted, b"", {"a": KEPT, "b": POINT_DUMP})
-    lines = b"write 7 a\nwrite @9 a\nwrite 7 no/such\nwrite @9 no/such\nclose 1\nwrite @2 b\n"
+    lines = b"write 7 a\nwrite @9 a\ndraw 7 no/such\ndraw @9 no/such\nclose 1\nwrite @2 b\n"
     wanted = POINT_MADE + b"no 22 NoPin\nno 24 NotRetained\n" * 2 + b"no 22 NoPin\nok 301\n"
     happened = explored(program, POINT + lines, there=["a"])
     yield "states that aren't there", (*happened[:3], sorted(happened[3])), (0, wanted, b"", ["a", "b"])
-    lost = b"clear 0 0\nopen -\nrewind 1\nwrite 1 a\nwrite 1 no/such\n"
+    lost = b"clear 0 0\nopen -\nrewind 1\nwrite 1 a\ndraw 1 no/such\n"
     happened = explored(program, lost)
     yield "a lost pin", happened, (0, b"ok\nok pin 1 at 1\nok place 0\n" + b"no 23 Lost Rewound\n" * 2, b"", {})
-    bad = (b"write", b"draw", b"write - a b", b"draw a b", b"draw - a", b"write x a", b"write @ a", b"write @x a", b"write -1 a", b"Write a", b"write\ta", b"writes a")
+    bad = (b"write", b"draw", b"write - a b", b"draw - a b", b"draw x a", b"write x a", b"write @ a", b"write @x a", b"write -1 a", b"Write a", b"write\ta", b"writes a")
     happened = explored(program, b"".join(line + b"\n" for line in bad))
     yield "lines that ask for no file", happened, (0, b"bad command\n" * len(bad), b"", {})
     happened = explored(program, "write ä\n".encode() + b"write \xff\nwrite a\0b\n")

@@ -410,16 +410,17 @@ class Columns(unittest.TestCase):
         self.assertEqual(heap.writer.getvalue(), b"".join(line + b"\n" for line in (*lines, b"name one.more")))
 
     def test_files(self):
-        heap = canned("ok 301", "ok 301", "ok 9000", "no 31 NoFile", "bad command")
+        heap = canned("ok 301", "ok 301", "ok 9000", "no 31 NoFile", "ok 8000", "bad command")
         self.assertEqual((heap.write_dump("a.hprof"), heap.write_dump(pathlib.Path("/b"), Place(3)), heap.write_picture("c.svg")), (301, 301, 9000))
         with self.assertRaises(Refused) as refused:
             heap.write_picture("c.svg")
         self.assertEqual((refused.exception.number, refused.exception.name), (31, "NoFile"))
+        self.assertEqual(heap.write_picture("d.svg", Place(3)), 8000)
         with self.assertRaises(BadCommand) as bad:
             heap.write_dump("a", Now())
         self.assertIn("explore writes files", str(bad.exception))
         self.assertRaises(BadCommand, lambda: heap.write_dump("two words"))
-        lines = b"write a.hprof", b"write @3 /b", b"draw c.svg", b"draw c.svg", b"write - a"
+        lines = b"write a.hprof", b"write @3 /b", b"draw c.svg", b"draw c.svg", b"draw @3 d.svg", b"write - a"
         self.assertEqual(heap.writer.getvalue(), b"".join(line + b"\n" for line in lines))
 
     def test_facts(self):

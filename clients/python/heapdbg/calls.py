@@ -226,9 +226,9 @@ class Calls:
         folder of heapdbg, and none has a space. Only `explore` over a heap of its own writes files."""
         return self.send(f"write{about(moment)} {word_of(os.fspath(path))}", number)
 
-    def write_picture(self, path: Union[str, "os.PathLike[str]"]) -> int:
-        """The same for a picture of the regions of the current state."""
-        return self.send(f"draw {word_of(os.fspath(path))}", number)
+    def write_picture(self, path: Union[str, "os.PathLike[str]"], moment: Moment = None) -> int:
+        """The same for a picture of the regions of a moment. That of a moment before now shows no object as dead, marked or gray."""
+        return self.send(f"draw{about(moment)} {word_of(os.fspath(path))}", number)
 
     def show(self, moment: Moment, of: int, first: int = 0, count: Optional[int] = None, along: Sequence[Name] = ()) -> list[SlotRow]:
         """Returns a `SlotRow` for each slot of an object, or for each from the slot `first` on: for `count` of these, if there are

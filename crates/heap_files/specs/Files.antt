@@ -85,10 +85,12 @@ IsDumpAnswer acts path ids time (Ok image) f answer f' =
     IsFileAnswer acts path (dump_text ids image time) f answer f'
 IsDumpAnswer acts path ids time (Err e) f answer f' = (answer ≡ refused_text e) × (f' ≡ f)
 
--- the answer to a line that asks for a picture, of which no more is said
-abbrev pub IsPictureAnswer : {F : Type 0} → FolderActs F → List ℕ → F → List ℕ → F → Type 0
-IsPictureAnswer acts path f answer f' =
+-- the answer to a line that asks for a picture of an image, of which no more is said; or why there is no image
+abbrev pub IsPictureAnswer : {F : Type 0} → FolderActs F → List ℕ → Result Image Refusal → F
+    → List ℕ → F → Type 0
+IsPictureAnswer acts path (Ok image) f answer f' =
     (picture : List ℕ) × IsFileAnswer acts path picture f answer f'
+IsPictureAnswer acts path (Err e) f answer f' = (answer ≡ refused_text e) × (f' ≡ f)
 
 -- ---- the end of a file
 

@@ -11,7 +11,7 @@ use Rattle.session_text.specs.declared.limits.SessionLimits.{SessionLimits}
 use Rattle.question_words.specs.Moments.{image_at, refused_text}
 use Rattle.question_grammar.specs.FileLines.{file_of}
 use Rattle.question_grammar.specs.declared.file_line.FileContent.{FileContent}
-use Rattle.question_grammar.specs.declared.file_line.FileContent.TheVariants.{DumpOf, Picture}
+use Rattle.question_grammar.specs.declared.file_line.FileContent.TheVariants.{DumpOf, PictureOf}
 use Rattle.question_text.specs.FileHelp.{file_help_of}
 use Rattle.question_text.specs.Sessions.{AskingActs, AskingAnswers}
 use Rattle.heap_files.specs.Files.{FolderActs, IsDumpAnswer, IsPictureAnswer}
@@ -32,7 +32,8 @@ abbrev pub WritesFile : {F : Type 0} → FolderActs F → FileContent → List �
 WritesFile acts (DumpOf at) path c text f' =
     IsDumpAnswer acts path c.asking.local.machine.ids c.time (image_at at c.asking.local.machine)
     c.folder text f'
-WritesFile acts Picture path c text f' = IsPictureAnswer acts path c.folder text f'
+WritesFile acts (PictureOf at) path c text f' =
+    IsPictureAnswer acts path (image_at at c.asking.local.machine) c.folder text f'
 
 -- a line asks for help that is given here alone; or it is answered as in a session with questions
 abbrev pub HelpsOrAnswers : {F : Type 0} → Option (List ℕ) → AnswerRelation (Filing F)

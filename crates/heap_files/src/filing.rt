@@ -23,7 +23,7 @@ use session_text::{Commands, LineAnswer, SessionLimits};
 use std::alloc::Global;
 
 /// A private machine that acts on the lines of a session and answers questions, as `Asking` does, and writes files: the dump of a
-/// state by `write [AT] PATH`, and a picture of the current one by `draw PATH`. By `source PATH` it runs the lines of a file, of which
+/// state by `write [AT] PATH`, and a picture of one by `draw [AT] PATH`. By `source PATH` it runs the lines of a file, of which
 /// none writes or reads a file, and by `log PATH` it has the session put into a file.
 #[derive(Drop)]
 pub struct Filing<'a, F> {
@@ -123,9 +123,10 @@ impl<'a, F: Folder> Filing<'a, F> {
                 &mut self.folder,
                 path,
             ),
-            FileContent::Picture => write_picture(
+            FileContent::PictureOf(at) => write_picture(
                 alloc,
                 &self.asking.local.machine,
+                at,
                 &mut self.folder,
                 path,
             ),

@@ -13,7 +13,7 @@ unfoldable pub file_forms : List LineForm
 file_forms =
     form_of (codes "write") (codes "write [AT] PATH") (codes "write heap.hprof")
     (codes "writes the dump of a state to a new file")
-    ∷ form_of (codes "draw") (codes "draw PATH") (codes "draw heap.svg")
+    ∷ form_of (codes "draw") (codes "draw [AT] PATH") (codes "draw heap.svg")
     (codes "writes a picture of the regions to a new file")
     ∷ []
 

@@ -98,7 +98,7 @@ pub fn notes_are_new()
         → name_set l ≡ Some w → IsAlone b state l }
 {}
 
-/// States the same of the lines that write files, `write [AT] PATH` and `draw PATH`: no session notes them or opens a pin by them
+/// States the same of the lines that write files, `write [AT] PATH` and `draw [AT] PATH`: no session notes them or opens a pin by them
 /// either.
 pub fn file_lines_are_new()
     ensures alone { (b : Bookmarks) (state : HeapState) (l path : List ℕ) (content : FileContent)

@@ -36,17 +36,17 @@ def bound(line, shape, objects):
 
 
 def times(program, shape, objects):
-    """Returns what each question takes in a heap, the bytes of its answer, and what memory the program takes."""
+    """Returns the name of each question with the bytes of its answer and what it takes in a heap, and what memory the program takes."""
     with tempfile.TemporaryDirectory(prefix="questions-") as folder:
         heap = LargeHeap(program, shape, objects, folder)
         print(f"{shape}: {heap.facts}", file=sys.stderr)
-        found = {}
+        found = []
         for name, line in heap.lines():
             count = TIMES if objects <= SMALL and not line.startswith(ONCE) else 1
             asked = [heap.ask(line) for _ in range(count)]
             if not asked[0][0][-1].startswith("ok"):
                 print(f"{shape}: {line}: {asked[0][0][-1]}", file=sys.stderr)
-            found[name] = sorted(asked, key=lambda it: it[2])[count // 2][1:]
+            found.append((name, *sorted(asked, key=lambda it: it[2])[count // 2][1:]))
         return found, heap.close()
 
 
@@ -58,14 +58,15 @@ def shown(seconds, most):
 
 def table(program, objects):
     """Prints the table of heaps of so many objects."""
-    columns = {shape: times(program, shape, objects) for shape in SHAPES}
+    columns, memory = zip(*(times(program, shape, objects) for shape in SHAPES))
     print(f"| {objects:,} objects | {' | '.join(SHAPES)} | may take | bytes |\n|---|---|---|---|---|---|")
-    for name in columns[SHAPES[0]][0]:
-        most = {shape: bound(name, shape, objects) for shape in SHAPES}
-        cells = [shown(columns[shape][0][name][1], most[shape]) for shape in SHAPES]
-        may = " or ".join(sorted({shown(each, None) for each in most.values() if each is not None}))
-        print(f"| `{name}` | {' | '.join(cells)} | {may} | {max(columns[shape][0][name][0] for shape in SHAPES):,} |")
-    print(f"| memory at most | {' | '.join(f'{columns[shape][1]:,} MB' for shape in SHAPES)} | | |", flush=True)
+    for asked in zip(*columns):
+        name = asked[0][0]
+        most = [bound(name, shape, objects) for shape in SHAPES]
+        cells = [shown(seconds, each) for (_, _, seconds), each in zip(asked, most)]
+        may = " or ".join(sorted({shown(each, None) for each in most if each is not None}))
+        print(f"| `{name}` | {' | '.join(cells)} | {may} | {max(size for _, size, _ in asked):,} |")
+    print(f"| memory at most | {' | '.join(f'{each:,} MB' for each in memory)} | | |", flush=True)
 
 
 def main(program, sizes):

@@ -1,4 +1,5 @@
 """Heaps of many objects, the same every time, and what each question about them may cost."""
+import contextlib
 import os
 import pathlib
 import random
@@ -10,12 +11,14 @@ import time
 # The most elements of a table, and how many lines and bytes are written and read at a time.
 TABLE, LINES, READ = 2_097_147, 5_000, 1 << 20
 # The bytes of an answer's end that are looked at.
-END = 1_000
+END = 4_000
 NODES_OF_A_REGION, WORDS_OF_A_REGION = 256, 1_024
 CLASSES = b"class Node - a:object b:object c:object key:int\narray [Node;\nclass Leaf - key:int\n"
 # The rounds of eight steps that end a session, all of whose steps are retained. Each makes a leaf, which the next one drops.
 ROUNDS = 8_192
 KEEP = 8 * ROUNDS
+# As many paths begin at an array beside the nodes, whose elements name the first of them.
+STARTS = 256
 ROUND = b"new 0 1 2\nput 0 1 0 %d\nput 0 0 3 %d\nstore 0 0 2 1\nload 0 2 0 0\nload 0 3 2 1\nput 0 2 3 %d\nmove 0 4 0 2\n"
 LAST = re.compile(rb"(?m)^(?:ok|no|bad)[^\n]*\n\Z")
 
@@ -49,7 +52,7 @@ def mixed_links(count, lots):
 # dropped in the middle of the retained steps, in which no node's slot b was written.
 ABOUT_STATES = (
     *("histogram", "garbage", "registers", "classes", "objects", "objects Node", "objects Node key 7", "values Node key", "values Node a"),
-    *("path {near}", "path {far}", "paths {far} 1", "paths {far} 256", "referrers {root}", "referrers {far}", "retained {root}", "retained {far}"),
+    *("path {near}", "path {far}", "paths {far} 1", "paths {far} {starts}", "referrers {root}", "referrers {far}", "retained {root}", "retained {far}"),
     *("dominators", "dominators 10", "dominators {root} 10", "dominator {near}", "dominator {far}"),
     *("show {root}", "show {root} 8", "show {root}.a.a.a 3", "history 65536"),
 )
@@ -101,19 +104,21 @@ def link_lines(links):
 
 
 def heap_lines(shape, count):
-    """Yields lines that make a heap of what the first of some nodes leads to, and of leaves that are lost."""
+    """Yields lines that make a heap of what the first of some nodes leads to, of an array and of leaves that are lost."""
     yield CLASSES
     yield from node_lines(count)
     yield from link_lines(SHAPES[shape](count, random.Random(1)))
-    yield b"load 0 0 7 0\n"
+    yield b"load 0 0 7 0\nmove 1 0 0 0\nnewarray 1 1 1 %d\n" % STARTS
+    yield from (b"store 1 1 %d 0\n" % start for start in range(STARTS))
+    yield b"clear 1 0\n"
     yield from (b"clear 0 %d\n" % register for register in range(1, 8))
     yield b"collect\n"
     yield from (ROUND % (number, number, number) for number in range(ROUNDS))
 
 
 def give(path, lines):
-    """Writes lines to a pipe."""
-    with open(path, "wb") as pipe:
+    """Writes lines to a pipe, as long as somebody reads."""
+    with contextlib.suppress(BrokenPipeError), open(path, "wb") as pipe:
         part = []
         for line in lines:
             part.append(line)
@@ -124,9 +129,10 @@ def give(path, lines):
 
 
 class LargeHeap:
-    """A session of `explore` over a heap of so many objects: leaves and nodes, which tables of references held until they were linked."""
+    """A session of `explore` over a heap of so many objects: leaves and nodes, which tables of references held until they were
+    linked. It is killed after `limit` seconds, if these are given."""
 
-    def __init__(self, program, shape, objects, folder):
+    def __init__(self, program, shape, objects, folder, limit=None):
         count = round((objects - ROUNDS) / REACHED[shape])
         area = -(-count // TABLE) + count // WORDS_OF_A_REGION + 1
         regions = area + (count + ROUNDS) // NODES_OF_A_REGION + 2
@@ -136,6 +142,10 @@ class LargeHeap:
         words = ["--wide", "1", "--regions", str(regions), "--area", str(area), "--keep", str(KEEP), "--from", lines]
         pipes = {"stdin": subprocess.PIPE, "stdout": subprocess.PIPE, "stderr": subprocess.DEVNULL}
         self.ran = subprocess.Popen([program, "explore", *words], bufsize=0, cwd=folder, **pipes)
+        self.timer = threading.Timer(limit or 0, self.ran.kill)
+        self.timer.daemon = True
+        if limit:
+            self.timer.start()
         rows = dict(row.split()[1:] for row in self.ask("status")[0][:-1])
         self.facts = {
             "old": f"@{int(rows['place']) - int(rows['retained'])}",
@@ -145,6 +155,8 @@ class LargeHeap:
             "leaf": self.object_with(f"Leaf key {ROUNDS // 2}"),
             "near": self.node_below(count // 3),
             "far": self.node_below(count),
+            # Of all these paths along a list the answer would be too long.
+            "starts": 1 if shape == "list" else STARTS,
         }
 
     def seconds(self):
@@ -154,14 +166,22 @@ class LargeHeap:
     def ask(self, line):
         """Asks a question. Returns the last lines of its answer, how many bytes that has, and the processor's time that it took."""
         begun = self.seconds()
-        self.ran.stdin.write(line.encode() + b"\n")
+        with contextlib.suppress(BrokenPipeError):
+            self.ran.stdin.write(line.encode() + b"\n")
         size, end = 0, b""
         while not LAST.search(end):
             part = self.ran.stdout.read(READ)
             if not part:
-                raise SystemExit(f"{line}: no answer")
+                raise SystemExit(f"{line}: no answer came")
             size, end = size + len(part), (end + part)[-END:]
         return end.decode().splitlines(), size, self.seconds() - begun
+
+    def unasked(self):
+        """Returns the keywords that `help` lists behind those of `run`, except for those of lines that run or log others, and that no
+        line asks."""
+        listed = [row.split()[1] for row in self.ask("help")[0][:-1]]
+        asked = {name.split()[0] for name, _ in self.lines()}
+        return [word for word in listed[listed.index("end") + 1 :] if word not in asked and word not in ("source", "log")]
 
     def object_with(self, words):
         """Returns the id of the object of a class that has a value, or None."""
@@ -188,6 +208,7 @@ class LargeHeap:
     def close(self):
         """Ends the session. Returns the megabytes that the program took at most."""
         status = pathlib.Path(f"/proc/{self.ran.pid}/status").read_text()
+        self.timer.cancel()
         self.ran.stdin.close()
         self.ran.wait()
         return int(re.search(r"VmHWM:\s+(\d+)", status)[1]) // 1024

@@ -37,6 +37,7 @@ test: ## runs the gate: proofs, wrong bodies, tests and checks of the program
 	python3 checks/house.py fit
 	rt ci
 	@python3 checks/growths.py crates/heapdbg/out/heapdbg
+	@python3 checks/costs.py crates/heapdbg/out/heapdbg
 	@python3 checks/cases.py crates/heapdbg/out/heapdbg crates/heapdbg/out/heapdbg.by-rattle
 	@python3 checks/streams.py crates/heapdbg/out/heapdbg crates/heapdbg/out/heapdbg.by-rattle
 	@python3 checks/model crates/heapdbg/out/heapdbg crates/heapdbg/out/heapdbg.by-rattle
@@ -67,6 +68,7 @@ bench: build ## measures times
 	bash bench/lines.sh
 	python3 bench/page.py bin/heapdbg
 	python3 bench/large.py bin/heapdbg
+	python3 bench/questions.py bin/heapdbg
 	python3 bench/millions.py bin/heapdbg
 
 # Looks at the page in Chromium, which it installs where it is missing and apt-get is there. PROGRAM is the program that serves it.

@@ -28,12 +28,13 @@ test: ## runs the gate: proofs, wrong bodies, tests and checks of the program
 	cmp examples/point.session crates/heapdbg/stdin
 	python3 checks/edits.py fit
 	python3 checks/map.py
+	python3 checks/said.py
 	python3 checks/headline.py
 	python3 checks/rows.py
 	python3 checks/no_memory.py
 	python3 scripts/page.py fit
 	python3 scripts/order.py fit
-	python3 checks/lemma_names.py
+	python3 checks/house.py fit
 	rt ci
 	@python3 checks/growths.py crates/heapdbg/out/heapdbg
 	@python3 checks/costs.py crates/heapdbg/out/heapdbg

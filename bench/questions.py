@@ -60,7 +60,7 @@ def shown(seconds, most):
 
 
 def table(program, objects):
-    """Prints the table of heaps of so many objects."""
+    """Prints the table of heaps of some numbers of objects."""
     columns, memory = zip(*(times(program, shape, objects) for shape in SHAPES))
     print(f"| {objects:,} objects | {' | '.join(SHAPES)} | may take | bytes |\n|---|---|---|---|---|---|")
     for asked in zip(*columns):

@@ -206,7 +206,7 @@ COUNTS = {
     words_with_two_meanings: 0,
     large_crates: 9,
     banned_words: 2,
-    long_clauses: 8,
+    long_clauses: 11,
     long_functions: 8,
     parameters_of_tests: 0,
     shared_definitions: 118,

@@ -4,7 +4,8 @@
 Usage: checks/hunt.py [PROGRAM ..]
 Each hunt explores a file. In its blocks a line after `> ` is given to `heapdbg explore`; the lines below it are the answer that
 a terminal must show, where `..` stands for any lines. Elsewhere the same answer must come without headings and columns. A hunt
-has at most ten questions. Prints a line for each difference and ends with status 1 if there is one."""
+has at most ten questions, and each id and place in one of them stands in an answer above it. Prints a line for each difference
+and ends with status 1 if there is one."""
 import os
 import pathlib
 import re
@@ -46,17 +47,22 @@ def hunts():
     return found
 
 
-def rows_of(shown):
-    """Returns the lines of an answer of the page without heading and columns."""
-    rows = [line.split() if line.startswith(b"  ") else [line] for line in shown]
+# How many words the rows of some questions have in replies, where a terminal shows a class behind them.
+WORDS = {b"show": 4, b"path": 3}
+
+
+def rows_of(line, shown):
+    """Returns the answer of the page to a line, without heading and columns, and without the classes that replies leave out."""
+    rows = [row.split() if row.startswith(b"  ") else [row] for row in shown]
     if rows and len(rows[0]) > 1 and all(word.isupper() for word in rows[0]):
         del rows[0]
-    return [b" ".join(row if len(row) == 1 else [b"row", *row]) for row in rows]
+    count = WORDS.get(line.split()[0])
+    return [b" ".join(row if len(row) == 1 else [b"row", *row[:count]]) for row in rows]
 
 
-def fits(came, wanted):
-    """Returns whether lines are those of the page, without its headings and columns."""
-    return has_parts(came, rows_of(wanted))
+def fits(line, came, wanted):
+    """Returns whether lines are those of the page that answer a line, without its headings and columns."""
+    return has_parts(came, rows_of(line, wanted))
 
 
 def has_parts(came, wanted):
@@ -92,6 +98,16 @@ def shown_by(program, path, asked):
     return [answer.split(b"\n")[:-1] for answer in re.split(rb"heapdbg \d+> \|", shown)[1:-1]]
 
 
+def from_nowhere(asked):
+    """Yields (line, word) for each id and each place in a line that no answer above shows."""
+    above = set()
+    for line, wanted in asked:
+        for word in line.replace(b".", b" ").split():
+            if word.startswith((b"0x", b"@")) and word.lstrip(b"@") not in above:
+                yield line, word
+        above |= {word for row in wanted for word in row.split()}
+
+
 def differences(programs, name, asked):
     """Yields a line for each answer in a hunt that isn't what it must be."""
     path = TOP / f"examples/{name}.session"
@@ -101,6 +117,8 @@ def differences(programs, name, asked):
     first = ("--from", str(path))
     if len(asked) > QUESTIONS:
         yield f"{name}: {len(asked)} questions"
+    for line, word in from_nowhere(asked):
+        yield f"{name}: {line!r} has {word!r}, which no answer above has"
     for each in programs:
         if of_program(each, lines[len(story) :], answers[len(story) :], *first) != answers[len(story) :]:
             yield f"{each}: another answer after --from"
@@ -115,7 +133,7 @@ def differences(programs, name, asked):
             if not answer.startswith(b"ok"):
                 yield f"{who}: {line!r} is answered {answer!r:.100}"
         for (line, wanted), answer in zip(asked, came[len(story) :]):
-            if not fits(answer.split(b"\n")[:-1], wanted):
+            if not fits(line, answer.split(b"\n")[:-1], wanted):
                 yield f"{who}: {line!r} is answered {answer!r:.300}"
 
 

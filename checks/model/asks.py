@@ -14,9 +14,9 @@ BY_NAME = ("ok by name", "bad by name")
 WANTED = {
     "histogram": ABOUT_A_MOMENT,
     "garbage": ABOUT_A_MOMENT,
-    "growth": (*ABOUT_MOMENTS, "ok by a place's name"),
-    "kept": ("ok nothing", "ok some", *ABOUT_MOMENTS[1:]),
-    "diff": ("ok nothing", "ok some", *ABOUT_MOMENTS[1:]),
+    "growth": (*ABOUT_MOMENTS, "ok by a place's name", "ok alone by at"),
+    "kept": ("ok nothing", "ok some", *ABOUT_MOMENTS[1:], "ok alone by at"),
+    "diff": ("ok nothing", "ok some", *ABOUT_MOMENTS[1:], "ok alone by at"),
     "path": (*ABOUT_A_MOMENT, "no 27", "no 28"),
     "paths": ("ok one", "ok several", "ok all", *ABOUT_A_MOMENT[1:], "no 27", "no 28", "bad"),
     "retained": ("ok nothing", "ok itself", "ok more", "ok without AT", "no 22", "no 23", "no 24", "no 28"),
@@ -46,26 +46,27 @@ WANTED = {
     "status": ("ok",),
     "collect": ("ok",),
     "rewind": ("ok place", "ok by a place's name", "no 24"),
+    "class": (*BY_NAME, "no 2", "no 4", "no 5"),
     "new": (*BY_NAME, "no 7", "no 10"),
     "newarray": (*BY_NAME, "no 7", "no 10"),
     "load": (*BY_NAME, "ok null by name"),
     "store": (*BY_NAME, "no 10"),
     "put": (*BY_NAME, "no 10", "no 11"),
-    "open": ("ok", "no 24", "no 25", "bad"),
+    "open": ("ok", "ok without AT", "ok by at", "no 24", "no 25", "bad"),
     "at": ("ok place", "ok by a place's name", "no 24", "bad"),
     "name": ("ok place", "bad"),
     "forward": ("ok place", "ok by a place's name", "no 24", "no 29"),
     "write": (*ABOUT_A_MOMENT, "no 31", "bad"),
-    "draw": ("no 31",),
+    "draw": ("no 31", "no 22", "no 23", "no 24"),
     "help": ("ok", "bad"),
     "comment": ("nothing",),
 }
 LEAST = 3
 # The events that name a class or a field, beside `new`.
-BY_NAMES = (b"newarray", b"load", b"store", b"put")
+BY_NAMES = (b"class", b"newarray", b"load", b"store", b"put")
 # How often lines are asked.
 WEIGHTS = dict.fromkeys(QUESTIONS | FILES, 2) | dict.fromkeys(BY_NAMES, 1)
-WEIGHTS |= {b"show": 6, b"watch": 4, b"writes": 4, b"help": 2, b"name": 6, b"at": 4, b"dominators": 4, b"draw": 1}
+WEIGHTS |= {b"show": 6, b"watch": 4, b"writes": 4, b"help": 2, b"name": 6, b"at": 4, b"dominators": 4}
 # The questions about the steps up to a place.
 PAST = (b"born", b"wrote", b"watch", b"writes", b"when", b"dropped", b"history")
 
@@ -76,7 +77,7 @@ def sorts(word, form, words, left_out, at, last, rows):
     if left_out and last[0] == "ok":
         yield "ok without AT"
         if at is not None:
-            yield "ok by at"
+            yield "ok alone by at" if form == "" and word in (b"growth", b"kept", b"diff") else "ok by at"
     if any(str(each).startswith("@") and str(each)[1:2].isalpha() for each in words) and last[0] == "ok":
         yield "ok by a place's name"
     if word in PAST and any(str(each).startswith("@") for each in words) and last[0] == "ok":
@@ -204,6 +205,9 @@ class AskingDraw(Draw):
     def event_words(self, word):
         """Returns the words of an event that names a class or a field."""
         lots = self.lots
+        if word == b"class":
+            names = [each.name.decode() for each in self.state.classes]
+            return [self.name(), lots.pick([*names, *names, "absent", "-"]), *lots.pick([self.fields(), self.fields(), ["v"]])]
         if word == b"newarray":
             names = [each.name.decode() for each in self.state.classes if each.is_array or lots.once_in(3)]
             return [lots.near(self.mutator(), 70), lots.near(lots.below(REGISTERS), 70), lots.pick([*names, "absent"]), self.length()]
@@ -221,8 +225,8 @@ class AskingDraw(Draw):
         return lots.near(usual, 70)
 
     def help_words(self):
-        """Returns the words after `help`: none, the word of a line, or words that name no line."""
-        return self.lots.pick([[], [self.lots.pick([*FORMS, *FILE_FORMS])], ["helping"], ["path", "-"]])
+        """Returns the words after `help`: none, the word of a line, `formats`, or words that name no line."""
+        return self.lots.pick([[], [self.lots.pick([*FORMS, *FILE_FORMS])], ["formats"], ["helping"], ["path", "-"]])
 
     def new_path(self):
         """Returns a word for a path: mostly one by which a file can be made."""
@@ -259,12 +263,13 @@ class AskingDraw(Draw):
         draws["k"] = lambda: self.lots.pick([*(each.name.decode() for each in self.state.classes), "absent"])
         draws["r"] = lambda: self.retained_place() if self.lots.once_in(3) else f"@{max(0, self.machine.place + 1 - self.lots.below(5))}"
         draws["w"] = self.way_on
-        draws["l"] = self.place_with_name
         draws["d"] = lambda: self.lots.pick(["a", "b", "c-1", "start", "Z" * 64, "Z" * 65, "7", "-", "a/b", "_a"])
         draws["n"] = lambda: self.lots.near(self.lots.below(8), 70)
         draws["m"] = lambda: self.lots.near(self.lots.pick([0, 1, 1, 2, 2, 3, 5, 9, 256, 257]), 70)
         draws["#"] = lambda: "count"
         draws["t"] = self.new_path if word == b"write" else lambda: self.lots.pick(self.taken_paths())
+        if word == b"open":
+            draws["p"] = self.place_with_name
         if word == b"at":
             draws["p"] = lambda: "-" if self.lots.once_in(4) else self.retained_place()
         if word == b"show":
@@ -272,8 +277,10 @@ class AskingDraw(Draw):
         form = "" if word == b"help" else self.lots.pick((QUESTIONS | FILES)[word].split("|"))
         parts = findall(r"\??.", form)
         kept = [part for part in parts if part[0] != "?" or not self.lots.once_in(4)]
+        if form == "?a?a" and self.lots.once_in(4):
+            kept = []
         form = "".join(part[-1] for part in kept)
-        left_out = any(part in ("?a", "?p") for part in parts if part not in kept)
+        left_out = any(parts.count(part) > kept.count(part) for part in ("?a", "?p"))
         if word in BY_NAMES:
             words = self.event_words(word)
         else:

@@ -114,7 +114,6 @@ def hunt(tab, told):
     yield from inspected(tab, told)
     tab.click_on(f"[...document.querySelectorAll('#insp a')].find((a) => a.textContent === '@{CLOSED:,}')")
     at_place(tab, CLOSED, FROM)
-    tab.wait("document.querySelector('#steps .now').innerText.includes('=')")
     yield "the step that closed it", steps(tab, ".now"), [f"@{CLOSED:,} put {LEAKED}.state = {told[f'show @{CLOSED} {LEAKED}'][0][1][3]} was 0"]
     yield "the steps after it", steps(tab, ".later"), [f"@{CLOSED + k:,} reg register {k + 1} of mutator 0 = null was {was}" for k, was in AFTER]
     for _ in range(2):

@@ -1,4 +1,5 @@
-"""Cases of lines that write files: `write` and `draw`, what the files have, and where these lines are no commands."""
+"""Cases of lines that write and read files: `write`, `draw`, `source` and `log`, what the files have, and where these lines are no
+commands."""
 import pathlib
 import resource
 import signal
@@ -32,11 +33,11 @@ def files_in(folder):
 
 
 def explored(program, given, words=(), there=(), task="explore", by=run, **how):
-    """Runs a session in a folder of its own, which has files of these names before. Returns status, standard output and standard error,
-    and what files the folder has then."""
+    """Runs a session in a folder of its own, which has files of these names before, and with these texts, if they are a dictionary.
+    Returns status, standard output and standard error, and what files the folder has then."""
     with tempfile.TemporaryDirectory() as folder:
         for name in there:
-            pathlib.Path(folder, name).write_bytes(KEPT)
+            pathlib.Path(folder, name).write_bytes(there[name] if isinstance(there, dict) else KEPT)
         given = given.replace(b"FOLDER", folder.encode())
         ran = by(program, [task, *words], given, **({"cwd": folder} if by is run else {}), **how)
         return ran[0], ran[1], ran[2].replace(folder.encode(), b"FOLDER"), files_in(folder)
@@ -66,22 +67,29 @@ def states_written(program):
         second = last_dump(program, STEPS + b"open 2\ndump 2\n", words)
         before = last_dump(program, STEPS + b"rewind 2\ndump -\n", words)
         drawn_before = picture(program, STEPS + b"rewind 2\n", words)
+        drawn_second = picture(program, STEPS + b"rewind @2\n", words)
+        drawn_third = picture(program, STEPS + b"rewind @3\n", words)
         lines = (
             (b"write now", now),
             (b"  write   -  dash ", now),
             (b"write 1 pinned", pinned),
             (b"write @2 place", second),
             (b"draw drawn", drawn),
+            (b"draw - drawn-dash", drawn),
+            (b"draw @2 drawn-place", drawn_second),
+            (b"draw 1 drawn-pin", drawn_third.replace(b">place 3:", b">pin 1:")),
             (b"at @2", None),
             (b"write at.hprof", second),
             (b"write - dash-at", now),
-            (b"draw drawn-at", drawn),
+            (b"draw drawn-at", drawn_second),
+            (b"draw - drawn-dash-at", drawn),
             (b"at -", None),
             (b"rewind 2", None),
             (b"write before\r", before),
             (b"draw drawn-before", drawn_before),
             (b"name here", None),
             (b"write @here named", before),
+            (b"draw @here drawn-named", drawn_before),
         )
         given = STEPS + b"".join(line + b"\n" for line, _ in lines)
         files = {line.split()[-1].decode(): text for line, text in lines if text is not None}
@@ -112,14 +120,14 @@ def no_files(program):
     wanted = POINT_MADE + REFUSED * 4 + b"ok 301\n" + REFUSED * 2
     happened = explored(program, POINT + lines, there=["a"])
     yield "files that are there", happened, (0, wanted, b"", {"a": KEPT, "b": POINT_DUMP})
-    lines = b"write 7 a\nwrite @9 a\nwrite 7 no/such\nwrite @9 no/such\nclose 1\nwrite @2 b\n"
+    lines = b"write 7 a\nwrite @9 a\ndraw 7 no/such\ndraw @9 no/such\nclose 1\nwrite @2 b\n"
     wanted = POINT_MADE + b"no 22 NoPin\nno 24 NotRetained\n" * 2 + b"no 22 NoPin\nok 301\n"
     happened = explored(program, POINT + lines, there=["a"])
     yield "states that aren't there", (*happened[:3], sorted(happened[3])), (0, wanted, b"", ["a", "b"])
-    lost = b"clear 0 0\nopen -\nrewind 1\nwrite 1 a\nwrite 1 no/such\n"
+    lost = b"clear 0 0\nopen -\nrewind 1\nwrite 1 a\ndraw 1 no/such\n"
     happened = explored(program, lost)
     yield "a lost pin", happened, (0, b"ok\nok pin 1 at 1\nok place 0\n" + b"no 23 Lost Rewound\n" * 2, b"", {})
-    bad = (b"write", b"draw", b"write - a b", b"draw a b", b"draw - a", b"write x a", b"write @ a", b"write @x a", b"write -1 a", b"Write a", b"write\ta", b"writes a")
+    bad = (b"write", b"draw", b"write - a b", b"draw - a b", b"draw x a", b"write x a", b"write @ a", b"write @x a", b"write -1 a", b"Write a", b"write\ta", b"writes a")
     happened = explored(program, b"".join(line + b"\n" for line in bad))
     yield "lines that ask for no file", happened, (0, b"bad command\n" * len(bad), b"", {})
     happened = explored(program, "write ä\n".encode() + b"write \xff\nwrite a\0b\n")
@@ -156,8 +164,8 @@ def cut_files(program):
 
 def elsewhere(program):
     """Yields sessions in which these lines are no commands as (name, what happened, what must happen)."""
-    lines = b"write a\nwrite - a\ndraw a\nhelp write\nhelp draw\n"
-    bad = b"bad command\n" * 5
+    lines = b"write a\nwrite - a\ndraw a\nhelp write\nhelp draw\nsource a\nlog a\nlog -\nhelp source\nhelp log\n"
+    bad = b"bad command\n" * 10
     for task, words in (("run", ()), ("run", ("--questions", "1")), ("explore", ("--page", str(free_port())))):
         status, out, _, files = explored(program, lines, words, task=task)
         yield f"{task} {' '.join(words[:1])} writes no file", (status, out, files), (0, bad, {})
@@ -174,7 +182,46 @@ def elsewhere(program):
     yield "a served session writes no file", happened, (0, b"session 1 quit\n", b"", bad)
 
 
+# A file of lines, in which none writes or reads a file, and what it is answered.
+LINES = b"class A - next:object\n# a comment\nnew 0 0 A\nhistogram\nload 0 0 0 7\nwrite a\nsource b\nlog c\nname made\nopen -\nhelp source\n"
+REPLIES = b"ok class 0\nok object 0x10000000\nrow 1 8 A\nok 1 8\nno 9 BadSlot\n" + b"bad command\n" * 3
+REPLIES += b"ok place 2\nok pin 1 at 2\nbad command\n"
+# Files that end otherwise, the replies to their lines, and the place to which they lead.
+ENDINGS = (
+    (b"", b"", 0),
+    (b"clear 0 0\nend\nclear 0 0\n", b"ok\n", 1),
+    (b"clear 0 0\nclear 0 0", b"ok\nbad cut\n", 1),
+    (b"clear 0 0\n" + b"x" * 4097 + b"\nclear 0 0\n", b"ok\nbad long\n", 1),
+)
+
+
+def sourced_files(program):
+    """Yields sessions that run the lines of files as (name, what happened, what must happen)."""
+    there = {"lines": LINES}
+    given = b"source lines\nshow @made 0x10000000\npins\nrewind 2\nsource none\nsource\nsource a b\nsource FOLDER\n"
+    wanted = REPLIES + b"ok place 2\nrow 0 next object null\nok object A 1\nrow 1 2 held 0\nok 1\nok place 0\n"
+    wanted += REFUSED + b"bad command\n" * 2 + REFUSED
+    yield "lines of a file", explored(program, given, there=there), (0, wanted, b"", there)
+    for text, replies, place in ENDINGS:
+        happened = explored(program, b"source lines\npins\n", there={"lines": text})
+        wanted = (0, replies + b"ok place %d\nok 0\n" % place, b"", {"lines": text})
+        yield f"a file of {len(text)} bytes", happened, wanted
+    many = b"help\n" * 1000
+    happened = explored(program, b"source lines\n", there={"lines": many})
+    answers = run(program, ["run", "--questions", "1"], many)[1]
+    yield "many replies to lines of a file", happened[:2], (0, answers + b"ok place 0\n")
+    happened = explored(program, b"source FOLDER/none\nsource FOLDER\nsource \xff\n", by=run_by_terminal)
+    told = b"heapdbg: FOLDER/none: No such file or directory\nheapdbg: FOLDER: Is a directory\nheapdbg: a path: not UTF-8\n"
+    yield "reasons of no lines", happened, (0, REFUSED * 3, told, {})
+
+
+def logs(program):
+    """Yields sessions that log as (name, what happened, what must happen)."""
+    happened = explored(program, b"log a\nlog no/such\nlog FOLDER\nlog\nlog a b\nlog -\nlog -\n", there=["a"])
+    yield "no log", happened, (0, REFUSED * 3 + b"bad command\n" * 2 + b"ok\n" * 2, b"", {"a": KEPT})
+
+
 def written_files(program):
-    """Yields sessions whose lines write files as (name, what happened, what must happen)."""
-    for cases in (states_written, long_dumps, no_files, reasons_told, cut_files, elsewhere):
+    """Yields sessions whose lines write and read files as (name, what happened, what must happen)."""
+    for cases in (states_written, long_dumps, no_files, reasons_told, cut_files, elsewhere, sourced_files, logs):
         yield from cases(program)

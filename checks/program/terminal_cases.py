@@ -1,6 +1,7 @@
 """Cases of `explore` at a terminal: its prompt, its advice, rows in columns, and the script that runs it."""
 import fcntl
 import os
+import pathlib
 import pty
 import re
 import select
@@ -196,6 +197,207 @@ def typed_beside(program, words, given):
     return re.sub(rb"page http://127\.0\.0\.1:\d+/#[0-9a-f]{32}\r?\n", b"ADDRESS\n", shown, count=1), status
 
 
+# Lines whose answers have less than a terminal shows: classes beside ids in several states, what grew, and how many slots there are.
+BESIDE = [
+    line + b"\n"
+    for line in b"""class Node - next:object value:int
+class Leaf - value:int
+new 0 0 Node
+new 0 1 Leaf
+store 0 0 next 1
+put 0 0 value 7
+show 0x10000000
+show 0x10000020
+show 0x10000000.next
+show 0x10000000 0 1
+show 0x10000000 0
+clear 0 1
+name cut
+path 0x10000020
+paths 0x10000020 1
+referrers 0x10000020
+values Node next
+growth @2
+diff @4
+clear 0 0
+collect
+growth @cut
+new 0 0 Leaf
+show @cut 0x10000000
+referrers @6 0x10000020
+diff @cut
+at @6
+path 0x10000020
+at -
+show 0x10000000
+load 0 2 0 3
+put 0 0 1 5
+values Node 2
+writes 0 5
+objects Node 4 0
+when Leaf 1 0
+wrote 0x10000000 1
+wrote @cut 0x10000000 2
+show 0x10000000.1
+class Empty -
+new 0 3 Empty
+put 0 3 0 1
+store 0 9 0 0
+q""".split(b"\n")
+]
+BESIDE_SHOWN = b"""heapdbg 0> |ok class 0
+heapdbg 1> |ok class 1
+heapdbg 2> |ok object 0x10000000
+heapdbg 3> |ok object 0x10000020
+heapdbg 4> |ok
+heapdbg 5> |ok
+heapdbg 6> |  SLOT  NAME   KIND    VALUE       CLASS
+     0  next   object  0x10000020  Leaf
+     1  value  int     7
+ok object Node 2
+heapdbg 6> |  SLOT  NAME   KIND  VALUE
+     0  value  int       0
+ok object Leaf 1
+heapdbg 6> |  SLOT  NAME   KIND  VALUE
+     0  value  int       0
+ok object Leaf 1
+heapdbg 6> |  SLOT  NAME  KIND    VALUE       CLASS
+     0  next  object  0x10000020  Leaf
+ok object Node 2
+heapdbg 6> |  LEVEL  SLOT  NAME   KIND    VALUE       CLASS
+      0     0  next   object  0x10000020  Leaf
+      0     1  value  int     7
+ok object Node 2
+heapdbg 6> |ok
+heapdbg 7> |ok place 7
+heapdbg 7> |  0           0  0x10000000  Node
+  0x10000000  0  0x10000020  Leaf
+ok 1
+heapdbg 7> |  0           0  0x10000000  Node
+  0x10000000  0  0x10000020  Leaf
+ok 1
+heapdbg 7> |  0x10000000  0  Node
+ok 1
+heapdbg 7> |  VALUE       OBJECTS  CLASS
+  0x10000020        1  Leaf
+ok 1
+heapdbg 7> |  CLASS  OBJECTS  BYTES  OBJECTS  BYTES  +OBJECTS  +BYTES
+  Node         0      0        1     12        +1     +12
+  Leaf         0      0        1      4        +1      +4
+ok 2
+heapdbg 7> |  ID          CLASS  SLOT  OLD   NEW
+  0x10000000  Node      0  null  0x10000020
+  0x10000000  Node      1  0     7
+ok 2
+heapdbg 7> |ok
+heapdbg 8> |ok condemned 2 swept 2
+heapdbg 11> |  CLASS  OBJECTS  BYTES  OBJECTS  BYTES  +OBJECTS  +BYTES
+  Node         1     12        0      0        -1     -12
+  Leaf         1      4        0      0        -1      -4
+ok 2
+heapdbg 11> |ok object 0x10000000
+heapdbg 12> |  SLOT  NAME   KIND    VALUE       CLASS
+     0  next   object  0x10000020  Leaf
+     1  value  int     7
+ok object Node 2
+heapdbg 12> |  0           1
+  0x10000000  0  Node
+ok 2
+heapdbg 12> |  ID          CLASS  SLOT  OLD  NEW
+  0x10000000  Node   gone
+  0x10000000  Leaf   made
+  0x10000020  Leaf   gone
+ok 3
+heapdbg 12> |ok place 6
+heapdbg 12> |  0  1  0x10000020  Leaf
+ok 0
+heapdbg 12> |ok place 12
+heapdbg 12> |  SLOT  NAME   KIND  VALUE
+     0  value  int       0
+ok object Leaf 1
+heapdbg 12> |no 9 BadSlot
+there is one slot: 0
+heapdbg 12> |no 9 BadSlot
+there is one slot: 0
+heapdbg 12> |no 9 BadSlot
+there are 2 slots: 0 to 1
+heapdbg 12> |no 9 BadSlot
+there are 2 slots: 0 to 1
+heapdbg 12> |no 9 BadSlot
+there are 2 slots: 0 to 1
+heapdbg 12> |no 9 BadSlot
+there is one slot: 0
+heapdbg 12> |no 9 BadSlot
+there is one slot: 0
+heapdbg 12> |no 9 BadSlot
+there are 2 slots: 0 to 1
+heapdbg 12> |no 9 BadSlot
+show lists the slots of an object
+heapdbg 12> |ok class 2
+heapdbg 13> |ok object 0x10000020
+heapdbg 14> |no 9 BadSlot
+there are no slots
+heapdbg 14> |no 7 BadRegister
+heapdbg 14> |"""
+
+
+def beside_replies(program):
+    """Yields what a terminal shows beside replies, without and with a page, as (name, what happened, what must happen). On a pipe there
+    is nothing of it."""
+    yield "more than replies", typed(program, ["explore"], BESIDE), (BESIDE_SHOWN, 0)
+    yield "more than replies, with a page", typed_beside(program, [], BESIDE), (b"heapdbg: ADDRESS\n" + BESIDE_SHOWN, 0)
+    piped = run(program, ["explore"], b"class A - next:object\nnew 0 0 0\nstore 0 0 0 0\nshow 0x10000000\nload 0 0 0 1\n")
+    rows = b"ok class 0\nok object 0x10000000\nok\nrow 0 next object 0x10000000\nok object A 1\nno 9 BadSlot\n"
+    yield "no more than replies on a pipe", piped, (0, rows, b"")
+
+
+# Lines of a session with logs: `FOLDER` is a folder. What it shows, and what its logs have.
+LOGGED = [
+    line + b"\n"
+    for line in b"""log FOLDER/a
+class A - x:int
+new 0 0 A
+log FOLDER/b
+show 0x10000000
+put 0 0 9 9
+log -
+pins
+log FOLDER/a
+quit""".split(b"\n")
+]
+LOGGED_SHOWN = b"""heapdbg 0> |ok
+heapdbg 0> |ok class 0
+heapdbg 1> |ok object 0x10000000
+heapdbg 2> |ok
+heapdbg 2> |  SLOT  NAME  KIND  VALUE
+     0  x     int       0
+ok object A 1
+heapdbg 2> |no 9 BadSlot
+there is one slot: 0
+heapdbg 2> |ok
+heapdbg 2> |ok 0
+heapdbg 2> |heapdbg: FOLDER/a: File exists
+no 31 NoFile
+heapdbg 2> |"""
+LOGS = {
+    "a": b"class A - x:int\n# ok class 0\nnew 0 0 A\n# ok object 0x10000000\nlog FOLDER/b\n",
+    "b": b"show 0x10000000\n# row 0 x int 0\n# ok object A 1\nput 0 0 9 9\n# no 9 BadSlot\nlog -\n",
+}
+
+
+def logged(program):
+    """Yields a session that logs as (name, what happened, what must happen), and one that runs its log again."""
+    with tempfile.TemporaryDirectory() as folder:
+        shown, status = typed(program, ["explore"], [line.replace(b"FOLDER", folder.encode()) for line in LOGGED])
+        files = {path.name: path.read_bytes().replace(folder.encode(), b"FOLDER") for path in pathlib.Path(folder).iterdir()}
+        happened = (shown.replace(folder.encode(), b"FOLDER"), status, files)
+        yield "logs of a session", happened, (LOGGED_SHOWN, 0, LOGS)
+        again = run(program, ["explore"], b"source FOLDER/a\nsource FOLDER/b\n".replace(b"FOLDER", folder.encode()))
+        replies = b"ok class 0\nok object 0x10000000\nbad command\nok place 2\n"
+        replies += b"row 0 x int 0\nok object A 1\nno 9 BadSlot\nbad command\nok place 2\n"
+        yield "logs that are run", again, (0, replies, b"")
+
+
 def by_script(program):
     """Yields what the script does that explores, with the program beside it, in the bin beside its folder, and on PATH, as (name,
     what happened, what must happen)."""
@@ -297,6 +499,8 @@ def at_a_terminal(program):
     """Yields what `explore` and `run` show at a terminal as (name, what happened, what must happen)."""
     yield "explore at a terminal", typed(program, ["explore"], TYPED), (SHOWN, 0)
     yield from advised(program)
+    yield from beside_replies(program)
+    yield from logged(program)
     yield "states that aren't there", typed(program, ["explore", "--keep", "2"], STATES), (STATES_SHOWN, 0)
     yield from by_script(program)
     yield "an interrupt", typed(program, ["explore"], [b"frobnic\x03"])[1:], (-signal.SIGINT,)

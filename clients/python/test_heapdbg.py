@@ -371,8 +371,10 @@ class Columns(unittest.TestCase):
         self.assertEqual((row.slot, row.name, row.kind, row.value), (1, "v", "long", 7))
 
     def test_the_past(self):
-        (row,) = self.asked(lambda heap: heap.history(1), "row 9 put 0x00000008 1 7", "ok 1")
-        self.assertEqual((row.place, row.record, row.facts), (9, "put", (8, 1, 7)))
+        (row,) = self.asked(lambda heap: heap.history(1), "row 9 put 0x00000008 1 7 9", "ok 1")
+        self.assertEqual((row.place, row.record, row.facts), (9, "put", (8, 1, 7, 9)))
+        (row,) = self.asked(lambda heap: heap.history(1), "row 9 new 0x00000008 0 1 null 0x10", "ok 1")
+        self.assertEqual(row.facts, (8, 0, 1, None, "0x10"))
         found, older, reached = (self.asked(lambda heap: heap.dropped(8), f"ok {text}") for text in ("place 3", "older 4", "reached"))
         self.assertEqual([(each.word, each.place) for each in (found, older, reached)], [("place", 3), ("older", 4), ("reached", None)])
         (place, never) = (self.asked(lambda heap: heap.when(0, 1, 7), f"ok {text}") for text in ("place 3", "never"))
@@ -398,26 +400,30 @@ class Columns(unittest.TestCase):
         self.assertEqual(words, ["-", "@816", "1", "2", "", "3", "@4", "@1 -", "1 -", "@5", "-", "1", "-", "2", "2"])
 
     def test_places_with_names(self):
-        heap = canned("ok place 7", "ok place 7", "ok place 9", "ok 0", "ok 0", "ok 0", "ok pin 1 at 7", "ok place 7", "no 30 NameLimit")
-        self.assertEqual((heap.name("start"), heap.at(Named("start")), heap.at()), (7, 7, 9))
+        told = [*["ok place 7"] * 2, "ok 0", "ok 0 0", "ok 0", "ok place 9", *["ok 0"] * 3, "ok pin 1 at 7", "ok place 7", "no 30 NameLimit"]
+        heap = canned(*told)
+        self.assertEqual((heap.name("start"), heap.at(Named("start"))), (7, 7))
+        self.assertEqual((heap.growth(), heap.kept(), heap.diff(), heap.at()), ([], [], [], 9))
         self.assertEqual((heap.growth(Named("start")), heap.history(3), heap.objects(None, 0)), ([], [], []))
         self.assertEqual((heap.open(Named("start")), heap.rewind(Named("start"))), ((1, 7), 7))
         self.assertRaises(Refused, lambda: heap.name("one.more"))
         self.assertRaises(BadCommand, lambda: heap.name("two words"))
-        lines = b"name start", b"at @start", b"at -", b"growth @start -", b"history 3", b"objects - 0", b"open @start", b"rewind @start"
-        self.assertEqual(heap.writer.getvalue(), b"".join(line + b"\n" for line in (*lines, b"name one.more")))
+        lines = [b"name start", b"at @start", b"growth", b"kept", b"diff", b"at -", b"growth @start -", b"history 3", b"objects - 0"]
+        lines += [b"open @start", b"rewind @start", b"name one.more"]
+        self.assertEqual(heap.writer.getvalue(), b"".join(line + b"\n" for line in lines))
 
     def test_files(self):
-        heap = canned("ok 301", "ok 301", "ok 9000", "no 31 NoFile", "bad command")
+        heap = canned("ok 301", "ok 301", "ok 9000", "no 31 NoFile", "ok 8000", "bad command")
         self.assertEqual((heap.write_dump("a.hprof"), heap.write_dump(pathlib.Path("/b"), Place(3)), heap.write_picture("c.svg")), (301, 301, 9000))
         with self.assertRaises(Refused) as refused:
             heap.write_picture("c.svg")
         self.assertEqual((refused.exception.number, refused.exception.name), (31, "NoFile"))
+        self.assertEqual(heap.write_picture("d.svg", Place(3)), 8000)
         with self.assertRaises(BadCommand) as bad:
             heap.write_dump("a", Now())
         self.assertIn("explore writes files", str(bad.exception))
         self.assertRaises(BadCommand, lambda: heap.write_dump("two words"))
-        lines = b"write a.hprof", b"write @3 /b", b"draw c.svg", b"draw c.svg", b"write - a"
+        lines = b"write a.hprof", b"write @3 /b", b"draw c.svg", b"draw c.svg", b"draw @3 d.svg", b"write - a"
         self.assertEqual(heap.writer.getvalue(), b"".join(line + b"\n" for line in lines))
 
     def test_facts(self):
@@ -674,8 +680,8 @@ class Names(unittest.TestCase):
             heap.clear(0, 2)
             self.assertEqual(heap.garbage(), [(1, 12, "0xyz")])
             self.assertEqual((heap.retained(None, ids[2]), heap.retained("@16", ids[2])), ([], [(1, 12, "0xyz")]))
-            self.assertEqual(heap.history(1), [(17, "reg", 0, 2, ids[2])])
-            self.assertEqual(heap.history(1, Place(16)), [(16, "new", ids[7], 0, 7, None)])
+            self.assertEqual(heap.history(1), [(17, "reg", 0, 2, ids[2], None)])
+            self.assertEqual(heap.history(1, Place(16)), [(16, "new", ids[7], 0, 7, None, self.ODD[7])])
             self.assertEqual(heap.objects(None, 2), [(ids[2], "0xyz", 2, True)])
             self.assertEqual(heap.objects(Place(16), 2, 0, 0), [(ids[2], "0xyz", 2, False)])
             self.assertEqual([heap.objects(None, 2, 0, value) for value in (1, ids[3])], [[], []])
@@ -688,7 +694,7 @@ class Names(unittest.TestCase):
     def test_elements_supers_and_moments(self):
         with session("--questions", "1") as heap:
             heap.define_class("null", [("next", "object")])
-            heap.define_class("2024", sup=0)
+            heap.define_class("2024", sup="null")
             heap.define_array("[null;")
             self.assertEqual(heap.classes()[1:], [(1, "2024", 0), (2, "[null;", "array")])
             array = heap.new_array(0, 0, 2, 2)

@@ -93,6 +93,12 @@ def word_of_name(name: Name) -> str:
     return str(name) if isinstance(name, int) else word_of(name)
 
 
+def between(older: Moment, newer: Moment) -> str:
+    """Returns two moments as the words behind that of a line, or nothing where neither is given: the state that `at` says, and the
+    current one."""
+    return "" if older is None and newer is None else f" {word_of_moment(older)} {word_of_moment(newer)}"
+
+
 def fields_from(of: int, along: Sequence[Name]) -> str:
     """Returns the word of an object with fields behind it. A field with a dot in its name can be given by its number alone."""
     dotted = [field for field in along if "." in str(field)]
@@ -115,10 +121,10 @@ class Calls:
 
     # ---- classes and objects
 
-    def define_class(self, name: str, fields: Sequence[tuple[str, str]] = (), sup: Optional[int] = None) -> int:
-        """Defines a class with fields (name, kind), and returns its number."""
+    def define_class(self, name: str, fields: Sequence[tuple[str, str]] = (), sup: Optional[Name] = None) -> int:
+        """Defines a class with fields (name, kind), below another if one is given, and returns its number."""
         texts = [word_of(f"{field}:{kind}") for field, kind in fields]
-        return self.send(" ".join(["class", word_of(name), "-" if sup is None else str(sup), *texts]), number)
+        return self.send(" ".join(["class", word_of(name), "-" if sup is None else word_of_name(sup), *texts]), number)
 
     def define_array(self, name: str) -> int:
         """Defines a class of object arrays, and returns its number."""
@@ -226,9 +232,9 @@ class Calls:
         folder of heapdbg, and none has a space. Only `explore` over a heap of its own writes files."""
         return self.send(f"write{about(moment)} {word_of(os.fspath(path))}", number)
 
-    def write_picture(self, path: Union[str, "os.PathLike[str]"]) -> int:
-        """The same for a picture of the regions of the current state."""
-        return self.send(f"draw {word_of(os.fspath(path))}", number)
+    def write_picture(self, path: Union[str, "os.PathLike[str]"], moment: Moment = None) -> int:
+        """The same for a picture of the regions of a moment. That of a moment before now shows no object as dead, marked or gray."""
+        return self.send(f"draw{about(moment)} {word_of(os.fspath(path))}", number)
 
     def show(self, moment: Moment, of: int, first: int = 0, count: Optional[int] = None, along: Sequence[Name] = ()) -> list[SlotRow]:
         """Returns a `SlotRow` for each slot of an object, or for each from the slot `first` on: for `count` of these, if there are
@@ -273,19 +279,19 @@ class Calls:
         """Returns a `ClassCount` for each class that has objects, the most bytes first."""
         return self.send(f"histogram{about(moment)}", rows_by(counted))
 
-    def growth(self, older: Moment, newer: Moment = None) -> list[ClassGrowth]:
-        """Returns a `ClassGrowth` for each class that differs between two moments."""
-        return self.send(f"growth {word_of_moment(older)} {word_of_moment(newer)}", rows_by(grown))
+    def growth(self, older: Moment = None, newer: Moment = None) -> list[ClassGrowth]:
+        """Returns a `ClassGrowth` for each class that differs between two moments; without any, between that of `at` and `Now()`."""
+        return self.send(f"growth{between(older, newer)}", rows_by(grown))
 
-    def kept(self, older: Moment, newer: Moment = None) -> list[ClassCount]:
+    def kept(self, older: Moment = None, newer: Moment = None) -> list[ClassCount]:
         """Returns a `ClassCount` for each class of the objects that registers reach at the newer moment and that weren't there at
         the older one."""
-        return self.send(f"kept {word_of_moment(older)} {word_of_moment(newer)}", rows_by(counted))
+        return self.send(f"kept{between(older, newer)}", rows_by(counted))
 
-    def diff(self, older: Moment, newer: Moment = None) -> list[Union[ObjectDifference, SlotDifference]]:
+    def diff(self, older: Moment = None, newer: Moment = None) -> list[Union[ObjectDifference, SlotDifference]]:
         """Returns what differs between the objects of two moments, by id: an `ObjectDifference` for each object of one of them alone,
         and a `SlotDifference` for each slot of an object of both that holds other values."""
-        return self.send(f"diff {word_of_moment(older)} {word_of_moment(newer)}", rows_by(difference))
+        return self.send(f"diff{between(older, newer)}", rows_by(difference))
 
     def path(self, moment: Moment, to: int) -> list[Union[RegisterStep, SlotStep]]:
         """Returns a shortest path to an object: a `RegisterStep`, then a `SlotStep` for each slot."""

@@ -239,7 +239,8 @@ class When(tuple):
 
 
 class PastStep(tuple):
-    """A retained step: (place, event, fact ..). SESSIONS.md has the facts of each event."""
+    """A retained step: (place, event, fact ..). SESSIONS.md has the facts of each event: what a step overwrote, and what it
+    wrote. The class of a new object is a str."""
 
     @property
     def place(self) -> int:
@@ -252,7 +253,7 @@ class PastStep(tuple):
         return self[1]
 
     @property
-    def facts(self) -> tuple[Union[int, ObjectId, None], ...]:
+    def facts(self) -> tuple[Union[int, ObjectId, str, None], ...]:
         """The facts of its record."""
         return tuple(self[2:])
 
@@ -495,8 +496,10 @@ def difference(row: list) -> Union[ObjectDifference, SlotDifference]:
 
 
 def past(row: list) -> PastStep:
-    """Reads PLACE RECORD FACT .., whose facts are numbers, ids and null."""
-    return PastStep((int(row[0]), row[1], *map(number_or_id, row[2:])))
+    """Reads PLACE RECORD FACT .., whose facts are numbers, ids and null, but for the class at the end of `new`."""
+    place, record, *facts = row
+    names = facts[4:] if record == "new" else []
+    return PastStep((int(place), record, *map(number_or_id, facts[: len(facts) - len(names)]), *names))
 
 
 def open_pin(row: list) -> tuple:

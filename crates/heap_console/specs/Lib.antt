@@ -1,3 +1,4 @@
 pub mod Lines
 pub mod Loads
 pub mod Meant
+pub mod OwnForms

@@ -1,4 +1,5 @@
 //! Advice on lines that were refused or are no command.
+use crate::own_forms::{own_keyword_help, own_rows};
 use question_text::{all_help, file_keyword_help, file_rows, keyword_help, question_help};
 use std::alloc::{AllocError, Global};
 use std::str;
@@ -35,7 +36,15 @@ fn form_with(keyword: &str, has_files: bool) -> Option<&'static str> {
 // Returns what `help` answers about a keyword.
 fn help_about(keyword: &[u8], has_files: bool) -> Option<&'static [u8]> {
     match keyword_help(keyword) {
-        None if has_files => file_keyword_help(keyword),
+        None if has_files => help_with_files(keyword),
+        text => text,
+    }
+}
+
+// Returns what `help` answers about a keyword of a line that writes or reads a file.
+fn help_with_files(keyword: &[u8]) -> Option<&'static [u8]> {
+    match file_keyword_help(keyword) {
+        None => own_keyword_help(keyword),
         text => text,
     }
 }
@@ -81,6 +90,7 @@ fn nearest(alloc: Global, word: &str, has_files: bool) -> Result<Option<&'static
     found = nearest_in(alloc, word, all_help(), found)?;
     if has_files {
         found = nearest_in(alloc, word, file_rows(), found)?;
+        found = nearest_in(alloc, word, own_rows(), found)?;
     }
     Ok(found.form)
 }

@@ -1,7 +1,9 @@
 //! An outlet that shows rows in columns.
 ghost use Rattle.std.specs.Prelude.{◌≡◌, ◌<◌, [], length};
 
+use crate::console::Console;
 use crate::heading::Heading;
+use crate::row_words::ShownLines;
 use dump_pump::ghost_list::note_bytes;
 use dump_pump::{Log, Outlet, Put};
 use session_text::write_all;
@@ -16,12 +18,13 @@ pub(crate) const LINE_END: u8 = b'\n';
 const COLUMNS: usize = 16;
 
 /// An outlet for a person at a terminal. It shows the words of successive rows below each other and below their heading, without
-/// the word `row`, numbers at the right of their columns, and all other lines as they are. Contracts see the bytes that it was
-/// given, not those that it shows.
+/// the word `row`, numbers at the right of their columns, and all other lines as they are. Beside ids it shows the classes that
+/// commands found, and beside the rows of `growth` by how much objects and bytes grew. Contracts see the bytes that it was given,
+/// not those that it shows.
 #[derive(Drop)]
 pub struct ColumnOutlet<'a, O: Outlet + Drop> {
     outlet: O,
-    heading: &'a Heading,
+    console: &'a Console,
     alloc: Global,
     cut: Vec<u8>,
     put: Log<u8, ()>,
@@ -45,9 +48,17 @@ struct Column {
     has_words: bool,
 }
 
-// Tells whether a word is a number.
+// Tells whether a word is a number, with or without a sign.
 fn is_number(word: &[u8]) -> bool {
-    word.iter().all(|byte| byte.is_ascii_digit())
+    without_sign(word).iter().all(|byte| byte.is_ascii_digit())
+}
+
+// Returns a word without the sign of a number, if it has one.
+fn without_sign(word: &[u8]) -> &[u8] {
+    match word {
+        [b'+' | b'-', digits @ ..] if !digits.is_empty() => digits,
+        _ => word,
+    }
 }
 
 impl Column {
@@ -104,44 +115,85 @@ impl Columns {
     }
 }
 
+// The names of the columns of rows.
+#[derive(Clone, Copy)]
+struct Names<'a> {
+    heading: &'a Heading,
+    has_classes: bool,
+}
+
+impl Names<'_> {
+    // Takes the names, so that only the first rows have them, with one for the classes behind rows. They are empty if there are
+    // none. Fails if an allocation fails.
+    fn take(self, alloc: Global) -> Result<Vec<u8>, AllocError> {
+        let mut names = Vec::new(alloc);
+        names.extend_from_slice(self.heading.take().as_bytes())?;
+        if self.has_classes && !names.is_empty() {
+            names.extend_from_slice(b" CLASS")?;
+        }
+        Ok(names)
+    }
+}
+
 // Returns whole lines, the last without its LF, with their rows in columns. Fails if an allocation fails.
-fn lines_in_columns(alloc: Global, lines: &[u8], heading: &Heading) -> Result<Vec<u8>, AllocError> {
+fn lines_in_columns(alloc: Global, lines: &[u8], console: &Console) -> Result<Vec<u8>, AllocError> {
+    let shown = ShownLines::of(alloc, lines, console)?;
+    let names = Names {
+        heading: &console.heading,
+        has_classes: shown.has_classes(),
+    };
     let mut text = Vec::new(alloc);
     let mut rows = Vec::new(alloc);
-    add_lines(&mut text, &mut rows, lines, heading)?;
+    add_lines(alloc, &mut text, &mut rows, shown.as_slice(), names)?;
     Ok(text)
 }
 
 // Appends whole lines, the last without its LF, with their rows in columns: the rows that stand together, and then the line
 // after them. Fails if an allocation fails.
 fn add_lines<'a>(
+    alloc: Global,
     text: &mut Vec<u8>,
     rows: &mut Vec<&'a [u8]>,
     lines: &'a [u8],
-    heading: &Heading,
+    names: Names<'_>,
 ) -> Result<(), AllocError> {
     for line in lines.split(|byte| *byte == LINE_END) {
-        match line.strip_prefix(b"row ") {
+        match aligned_row(line) {
             Some(row) => rows.push(row)?,
             None => {
-                add_rows(text, rows.as_slice(), heading)?;
+                add_rows(alloc, text, rows.as_slice(), names)?;
                 rows.clear();
-                add_line(text, line)?;
+                add_line(text, without_row(line))?;
             }
         }
     }
-    add_rows(text, rows.as_slice(), heading)
+    add_rows(alloc, text, rows.as_slice(), names)
 }
 
-// Adds rows with their words in columns, and before them their heading.
-fn add_rows(text: &mut Vec<u8>, rows: &[&[u8]], heading: &Heading) -> Result<(), AllocError> {
+// Returns the text of a row whose words are shown in columns, or None if the line is no row, or a row of words of `help`, which begin
+// with `#`.
+fn aligned_row(line: &[u8]) -> Option<&[u8]> {
+    let row = line.strip_prefix(b"row ")?;
+    if row.starts_with(b"# ") {
+        return None;
+    }
+    Some(row)
+}
+
+// Adds rows with their words in columns, and before them the names of the columns.
+fn add_rows(
+    alloc: Global,
+    text: &mut Vec<u8>,
+    rows: &[&[u8]],
+    names: Names<'_>,
+) -> Result<(), AllocError> {
     if rows.is_empty() {
         return Ok(());
     }
-    let heading = heading.take().as_bytes();
-    let columns = Columns::of(rows, heading);
+    let heading = names.take(alloc)?;
+    let columns = Columns::of(rows, heading.as_slice());
     if !heading.is_empty() {
-        add_row(text, heading, &columns)?;
+        add_row(text, heading.as_slice(), &columns)?;
     }
     for row in rows {
         add_row(text, row, &columns)?;
@@ -179,14 +231,20 @@ fn add_line(text: &mut Vec<u8>, line: &[u8]) -> Result<(), AllocError> {
     Ok(())
 }
 
+// Returns a line without the word `row` before it.
+fn without_row(line: &[u8]) -> &[u8] {
+    line.strip_prefix(b"row ").unwrap_or(line)
+}
+
 impl<'a, O: Outlet + Drop> ColumnOutlet<'a, O> {
     /// Creates an outlet over another, which was given nothing.
-    pub fn new(alloc: Global, heading: &'a Heading, outlet: O) -> ColumnOutlet<'a, O>
+    pub fn new(alloc: Global, console: &'a Console, outlet: O) -> ColumnOutlet<'a, O>
         ensures { result ≡ record { out = []; failures = 0 } }
     {
+        console.hints.want_classes();
         ColumnOutlet {
             outlet,
-            heading,
+            console,
             alloc,
             cut: Vec::new(alloc),
             put: Log::new(),
@@ -198,7 +256,7 @@ impl<'a, O: Outlet + Drop> ColumnOutlet<'a, O> {
     fn show(&mut self, lines: &[u8]) -> bool
         ensures { self.new ≡ self.old }
     {
-        match lines_in_columns(self.alloc, lines, self.heading) {
+        match lines_in_columns(self.alloc, lines, self.console) {
             Ok(text) => write_all(&mut self.outlet, text.as_slice()),
             Err(_) => write_all(&mut self.outlet, lines) && write_all(&mut self.outlet, b"\n"),
         }

@@ -1,5 +1,6 @@
 //! What the prompt and the columns of one session share.
 use crate::heading::Heading;
+use crate::hints::Hints;
 use question_text::Watch;
 
 /// What the parts of a session at a terminal tell each other.
@@ -9,6 +10,8 @@ pub struct Console {
     pub watch: Watch,
     /// What the prompt tells an outlet that shows rows.
     pub heading: Heading,
+    /// What the commands tell the prompt and that outlet.
+    pub hints: Hints,
 }
 
 impl Console {
@@ -17,6 +20,7 @@ impl Console {
         Console {
             watch: Watch::new(),
             heading: Heading::new(),
+            hints: Hints::new(),
         }
     }
 }

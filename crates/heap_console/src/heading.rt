@@ -7,13 +7,18 @@ use std::str;
 #[derive(Drop)]
 pub struct Heading {
     rows: Cell<Rows>,
+    is_due: Cell<bool>,
 }
 
 // The rows that answer a line, by their columns.
 #[derive(Clone, Copy)]
-enum Rows {
+pub(crate) enum Rows {
     // Rows of several sorts, or none.
     Mixed,
+    // The steps of paths.
+    Hops,
+    // What names an object.
+    Referrers,
     Counts,
     Growth,
     Differences,
@@ -40,17 +45,28 @@ impl Heading {
     pub fn new() -> Heading {
         Heading {
             rows: Cell::new(Rows::Mixed),
+            is_due: Cell::new(false),
         }
     }
 
     // Notes the line that was read, or several, which have no heading.
     pub(crate) fn note(&self, read: &[u8]) {
         self.rows.set(rows_after(read));
+        self.is_due.set(true);
+    }
+
+    // Returns the rows that answer the newest line.
+    pub(crate) fn rows(&self) -> Rows {
+        self.rows.get()
     }
 
     // Takes the names of the columns, so that only the first rows have them. They are empty if there are none.
     pub(crate) fn take(&self) -> &'static str {
-        names_of(self.rows.replace(Rows::Mixed))
+        if self.is_due.replace(false) {
+            names_of(self.rows.get())
+        } else {
+            ""
+        }
     }
 }
 
@@ -73,6 +89,8 @@ fn rows_of(line: &str) -> Rows {
     match line.split_ascii_whitespace().next().unwrap_or("") {
         "histogram" | "garbage" | "kept" | "retained" => Rows::Counts,
         "growth" => Rows::Growth,
+        "path" | "paths" => Rows::Hops,
+        "referrers" => Rows::Referrers,
         "diff" => Rows::Differences,
         "dominators" => Rows::Dominators,
         "dominator" => Rows::Holders,
@@ -103,10 +121,10 @@ fn has_depth(line: &str) -> bool {
 // Returns the names of the columns of rows.
 fn names_of(rows: Rows) -> &'static str {
     match rows {
-        Rows::Mixed => "",
+        Rows::Mixed | Rows::Hops | Rows::Referrers => "",
         Rows::Counts => "OBJECTS BYTES CLASS",
-        Rows::Growth => "CLASS OBJECTS BYTES OBJECTS BYTES",
-        Rows::Differences => "ID SLOT OLD NEW",
+        Rows::Growth => "CLASS OBJECTS BYTES OBJECTS BYTES +OBJECTS +BYTES",
+        Rows::Differences => "ID CLASS SLOT OLD NEW",
         Rows::Dominators => "ID OBJECTS BYTES CLASS",
         Rows::Holders => "ID CLASS",
         Rows::Registers => "M R ID CLASS",

@@ -48,6 +48,8 @@ impl<I: Inlet + Drop, R: Eprint> PromptInlet<'_, I, R> {
             self.write_form();
         } else if refusal == Refusal::NoPin.number() || refusal == Refusal::NotRetained.number() {
             self.write_places();
+        } else if refusal == Refusal::BadSlot.number() {
+            self.write_slots();
         }
     }
 
@@ -75,6 +77,19 @@ impl<I: Inlet + Drop, R: Eprint> PromptInlet<'_, I, R> {
         };
     }
 
+    // Writes how many slots there are of which the line that was read before named another.
+    fn write_slots(&self) {
+        let _ = match self.console.hints.take_slots() {
+            Some(0) => eprintln!(self.rt; "there are no slots"),
+            Some(1) => eprintln!(self.rt; "there is one slot: 0"),
+            Some(count) => {
+                let last = count.saturating_sub(1);
+                eprintln!(self.rt; "there are {count} slots: 0 to {last}")
+            }
+            None => eprintln!(self.rt; "show lists the slots of an object"),
+        };
+    }
+
     // Tells whether a line begins with what is read next.
     fn is_between_lines(&self) -> bool {
         match self.typed.last() {
@@ -88,6 +103,7 @@ impl<I: Inlet + Drop, R: Eprint> PromptInlet<'_, I, R> {
         ensures { (self.new.inlet ≡ self.old.inlet) × (self.new.given ≡ self.old.given) }
     {
         self.console.heading.note(read);
+        self.console.hints.note_read(read);
         self.typed.clear();
         if self.typed.extend_from_slice(read).is_err() {
             self.typed.clear();

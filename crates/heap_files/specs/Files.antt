@@ -1,10 +1,11 @@
 -- The files that lines write.
-use Rattle.std.specs.Prelude.{◌≡◌, ◌⊎◌, ⊤, ℕ, List, ◌++◌, codes, length, true, false, Option, Some, None, Result, Ok, Err}
+use Rattle.std.specs.Prelude.{◌≡◌, ◌⊎◌, ⊤, ℕ, Bool, List, ◌++◌, codes, length, true, false, Option, Some, None, Result, Ok, Err}
 use Rattle.heap_class.specs.declared.IdSize.{IdSize}
 use Rattle.heap_class.specs.declared.Refusal.{Refusal}
 use Rattle.heap_class.specs.declared.Refusal.TheVariants.{NoMemory}
 use Rattle.hprof_text.specs.Image.{Image}
 use Rattle.hprof_text.specs.Segments.{dump_text}
+use Rattle.dump_pump.specs.Inlets.{Incoming}
 use Rattle.dump_pump.specs.Outlets.{Outgoing}
 use Rattle.session_text.specs.Replies.{and_number, line}
 use Rattle.session_text.specs.Writes.{IsTextWritten}
@@ -16,11 +17,15 @@ use Rattle.heap_files.specs.declared.files.Unwritten.TheVariants.{NoFile, Refuse
 
 -- ---- folders
 
--- what a folder may do: make the file of a path, which has put out this, or none; let such a file stay; and remove it
+-- what a folder may do: make the file of a path, which has put out this, or none; let such a file stay; remove it; open the file of
+-- a path, which has given this, or none; begin a log, or not; and end it
 pub record FolderActs (F : Type 0) : Type 1 where
   pub makes : F → List ℕ → Option Outgoing → F → Type 0
   pub keeps : F → List ℕ → Outgoing → F → Type 0
   pub removes : F → List ℕ → Outgoing → F → Type 0
+  pub opens : F → List ℕ → Option Incoming → F → Type 0
+  pub logs : F → List ℕ → Bool → F → Type 0
+  pub ends_log : F → F → Type 0
 
 -- what became of a file
 abbrev pub FileEnd : Type 0 → Type 1
@@ -80,10 +85,12 @@ IsDumpAnswer acts path ids time (Ok image) f answer f' =
     IsFileAnswer acts path (dump_text ids image time) f answer f'
 IsDumpAnswer acts path ids time (Err e) f answer f' = (answer ≡ refused_text e) × (f' ≡ f)
 
--- the answer to a line that asks for a picture, of which no more is said
-abbrev pub IsPictureAnswer : {F : Type 0} → FolderActs F → List ℕ → F → List ℕ → F → Type 0
-IsPictureAnswer acts path f answer f' =
+-- the answer to a line that asks for a picture of an image, of which no more is said; or why there is no image
+abbrev pub IsPictureAnswer : {F : Type 0} → FolderActs F → List ℕ → Result Image Refusal → F
+    → List ℕ → F → Type 0
+IsPictureAnswer acts path (Ok image) f answer f' =
     (picture : List ℕ) × IsFileAnswer acts path picture f answer f'
+IsPictureAnswer acts path (Err e) f answer f' = (answer ≡ refused_text e) × (f' ≡ f)
 
 -- ---- the end of a file
 

@@ -1,2 +1,5 @@
 pub mod Files
 pub mod Filings
+pub mod OwnHelp
+pub mod OwnLines
+pub mod Sources

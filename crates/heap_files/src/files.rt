@@ -8,7 +8,7 @@ ghost use Rattle.heap_files.specs.Files.{IsAnswerOfMade, IsDumpAnswer, IsFileAns
 
 use crate::folder::Folder;
 use heap_class::Refusal;
-use heap_console::picture_of;
+use heap_console::picture_at;
 use heap_trail::{Machine, Reply};
 use hprof_text::{Cursor, Piece, View, text_len};
 use question_text::{DumpCut, first_piece, put_pieces};
@@ -135,18 +135,18 @@ fn reason_of(cut: DumpCut) -> Unwritten
     }
 }
 
-// Writes a picture of the current state of a machine to the file of a path. Returns its size.
+// Writes a picture of a state to the file of a path. Returns its size.
 pub(crate) fn write_picture<F: Folder>(
     alloc: Global,
     machine: &Machine,
+    at: At,
     folder: &mut F,
     path: &[u8],
 ) -> Result<u64, Unwritten>
-    ensures { IsPictureAnswer F.acts path.now folder.old (written_text result) folder.new }
+    ensures { IsPictureAnswer F.acts path.now (image_at at machine.now) folder.old
+        (written_text result) folder.new }
 {
-    let Ok(picture) = picture_of(alloc, machine) else {
-        return Err(Unwritten::Refused(Refusal::NoMemory));
-    };
+    let picture = picture_at(alloc, machine, at)?;
     write_text(folder, path, picture.as_slice())
 }
 

@@ -1,10 +1,14 @@
-//! Sessions with questions whose lines also write files: dumps of states, and pictures.
+//! Sessions with questions whose lines also write files, dumps of states and pictures, run the lines of files, and log.
 #![tactic(auto)]
 
 mod files;
 mod filing;
 mod folder;
+mod own_help;
+pub mod own_line;
 mod session;
+mod source;
+mod text_outlet;
 
 ghost use Rattle.std.specs.Prelude.{◌≡◌, ℕ, List, Some};
 ghost use Rattle.question_grammar.specs.FileLines.{file_of};

@@ -6,6 +6,7 @@ use Rattle.heap_region.specs.Regions.{Object, Region, Empty, InUse, in_used}
 use Rattle.heap_region.specs.Legal.{EachObject}
 use Rattle.heap_region.specs.Turns.{turned_object, turned_back_object, turned_region, turned_back_region}
 use Rattle.heap_region.proofs.Lookups.{listed_region_is_in_use, object_found_in_used_cell}
+use Rattle.heap_region.proofs.LateTurns.{bit_flipped_twice, cells_turned_and_back}
 use Rattle.heap_mark.specs.MarkSteps.{MarkState, each_object, each_region, pending_regions, finish_refusal, finished_region, finished, unfinished_region}
 use Rattle.heap_mark.specs.Finish.{finished_object}
 use Rattle.heap_mark.proofs.Finishes.{pending_in, none_pending, map_back, finished_regions_undone}
@@ -40,17 +41,6 @@ pub turn_ends : (s : MarkState) → finish_refusal s ≡ None → EachObject s.r
 unfolding finished
 turn_ends s accepted live = regions_same s.regions (finish_means_no_region_pending s accepted) live
 
-not_of_not : (b : Bool) → not (not b) ≡ b
-not_of_not true = refl
-not_of_not false = refl
-
-turned_cells_turned_back : (cells : List (Option Object)) → map (option_map turned_back_object) (map (option_map turned_object) cells) ≡ cells
-turned_cells_turned_back cells = map_back _ _ cells back
-  where
-    back : (c : ℕ) (x : Option Object) → slice_get cells c ≡ Some x → option_map turned_back_object (option_map turned_object x) ≡ x
-    back c None e = refl
-    back c (Some o) e = ap (λ (b : Bool). Some (record o { live = b })) (not_of_not o.live)
-
 -- a turn is undone whatever the regions are
 turned_regions_turned_back : (regions : List Region) → each_region turned_back_region (each_region turned_region regions) ≡ regions
 unfolding each_region turned_region turned_back_region in_used
@@ -58,7 +48,7 @@ turned_regions_turned_back regions = map_back _ _ regions back
   where
     back : (r : ℕ) (x : Region) → slice_get regions r ≡ Some x → in_used turned_back_region (in_used turned_region x) ≡ x
     back r Empty e = refl
-    back r (InUse u) e = λ i. InUse (record u { pending = not_of_not u.pending i; cells = turned_cells_turned_back u.cells i })
+    back r (InUse u) e = λ i. InUse (record u { pending = bit_flipped_twice u.pending i; cells = cells_turned_and_back u.cells i })
 
 -- turned back, the regions after a finish are what its undoing leaves of them
 pub turn_back_undoes : (before : MarkState) (regions : List Region) → finish_refusal before ≡ None → EachObject before.regions (λ at o. o.live ≡ true) → regions ≡ (finished before).regions → each_region turned_back_region regions ≡ each_region unfinished_region regions

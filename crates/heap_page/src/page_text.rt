@@ -2,7 +2,7 @@
 
 // The policy of the page.
 pub(crate) const POLICY: &str =
-    "default-src 'none'; script-src 'sha256-Bue9Vg3tSI4RrvnyGymz7tmc4yiFjL51tI80d+yYcyk='; style-src 'sha256-rwptB6V3j7C9RUYU45deu6HKvCkiW6lYFRte+Sm6CU4='; img-src data:; connect-src 'self'; base-uri 'none'; form-action 'none'; frame-ancestors 'none'";
+    "default-src 'none'; script-src 'sha256-sKaQfywH5S690zuWkW5dw0k4PsAoBhZIq/qhjQGzOd4='; style-src 'sha256-rwptB6V3j7C9RUYU45deu6HKvCkiW6lYFRte+Sm6CU4='; img-src data:; connect-src 'self'; base-uri 'none'; form-action 'none'; frame-ancestors 'none'";
 
 // The page.
 pub(crate) const PAGE: &[u8] = b"<!doctype html>\n\
@@ -308,7 +308,6 @@ pub(crate) const PAGE: &[u8] = b"<!doctype html>\n\
     \x20\x20\x20\x20most: SLOTS,\n\
     \x20\x20\x20\x20writers: [],\n\
     \x20\x20\x20\x20later: 0,\n\
-    \x20\x20\x20\x20values: new Map(),\n\
     \x20\x20\x20\x20more: 0,\n\
     \x20\x20\x20\x20epoch: 0,\n\
     \x20\x20\x20\x20took: null,\n\
@@ -703,7 +702,6 @@ pub(crate) const PAGE: &[u8] = b"<!doctype html>\n\
     \x20\x20\x20\x20unveil();\n\
     \x20\x20\x20\x20if (!h.ok || !o.ok || (g && !g.ok)) return false;\n\
     \x20\x20\x20\x20S.shown = place;\n\
-    \x20\x20\x20\x20S.values = new Map();\n\
     \x20\x20\x20\x20S.hist = h.rows.map((x) => ({ objects: +x[0], bytes: +x[1], name: x[2] }));\n\
     \x20\x20\x20\x20S.total = { objects: +h.words[1], bytes: +h.words[2] };\n\
     \x20\x20\x20\x20keepSample(place, h);\n\
@@ -2192,66 +2190,20 @@ pub(crate) const PAGE: &[u8] = b"<!doctype html>\n\
     \x20\x20// ---- steps\n\
     \x20\x20const wasOf = (w) => w.startsWith(\"0x\") ? [el(\"span\", \"dim\", \"was \"), idLink(w)] : [el(\"span\", \"dim\", \"was \" + w)];\n\
     \n\
-    \x20\x20// A name for the slot or the register that a step writes.\n\
-    \x20\x20function targetOf(e) {\n\
-    \x20\x20\x20\x20if (e.target === undefined) {\n\
-    \x20\x20\x20\x20\x20\x20const w = wordsOf(e);\n\
-    \x20\x20\x20\x20\x20\x20e.target = e.kind === \"put\" || e.kind === \"store\" ? w[1] + \" \" + w[2] : e.kind === \"reg\" ? w[1] + \":\" + w[2] : e.kind === \"new\" ? w[2] + \":\" + w[3] : \"\";\n\
-    \x20\x20\x20\x20}\n\
-    \x20\x20\x20\x20return e.target;\n\
-    \x20\x20}\n\
-    \n\
-    \x20\x20// Returns what a step wrote: what the next step that writes the same overwrote, else what is there in the shown state. Null if that can't be\n\
-    \x20\x20// known, and undefined if the shown state must be asked.\n\
-    \x20\x20function writtenBy(e) {\n\
-    \x20\x20\x20\x20const last = e.p <= S.shown ? S.shown : Math.min(S.place, e.p + 2000);\n\
-    \x20\x20\x20\x20for (let p = e.p + 1; p <= last; p++) {\n\
-    \x20\x20\x20\x20\x20\x20const next = eventAt(p);\n\
-    \x20\x20\x20\x20\x20\x20if (!next || (next.kind === \"new\" && next.w === e.w)) return null;\n\
-    \x20\x20\x20\x20\x20\x20if (targetOf(next) === targetOf(e)) return wordsOf(next).pop();\n\
-    \x20\x20\x20\x20}\n\
-    \x20\x20\x20\x20if (e.p > S.shown) return null;\n\
-    \x20\x20\x20\x20if (e.kind !== \"reg\") return undefined;\n\
-    \x20\x20\x20\x20const [, m, r] = wordsOf(e),\n\
-    \x20\x20\x20\x20\x20\x20found = S.regs.find((x) => x[0] === m && x[1] === r);\n\
-    \x20\x20\x20\x20return found ? found[2] : \"null\";\n\
-    \x20\x20}\n\
-    \n\
-    \x20\x20// What a step wrote, as soon as it is known.\n\
-    \x20\x20function wrote(e) {\n\
+    \x20\x20const wrote = (w) => {\n\
     \x20\x20\x20\x20const box = el(\"span\"),\n\
-    \x20\x20\x20\x20\x20\x20value = writtenBy(e),\n\
-    \x20\x20\x20\x20\x20\x20fill = (v) => {\n\
-    \x20\x20\x20\x20\x20\x20\x20\x20if (v === null || v === undefined) return;\n\
-    \x20\x20\x20\x20\x20\x20\x20\x20const shown = v.startsWith(\"0x\") ? idLink(v) : v;\n\
-    \x20\x20\x20\x20\x20\x20\x20\x20if (v.startsWith(\"0x\")) shown.tabIndex = -1;\n\
-    \x20\x20\x20\x20\x20\x20\x20\x20box.append(\"= \", shown, \" \");\n\
-    \x20\x20\x20\x20\x20\x20};\n\
-    \x20\x20\x20\x20if (value !== undefined) fill(value);\n\
-    \x20\x20\x20\x20else if (!S.fast && e.p > S.shown - 16) {\n\
-    \x20\x20\x20\x20\x20\x20const [, id, slot] = wordsOf(e),\n\
-    \x20\x20\x20\x20\x20\x20\x20\x20first = slot - slot % SLOTS,\n\
-    \x20\x20\x20\x20\x20\x20\x20\x20part = id + \" \" + first,\n\
-    \x20\x20\x20\x20\x20\x20\x20\x20known = S.values;\n\
-    \x20\x20\x20\x20\x20\x20// The first sight doesn't wait for it.\n\
-    \x20\x20\x20\x20\x20\x20setTimeout(() => {\n\
-    \x20\x20\x20\x20\x20\x20\x20\x20if (known !== S.values || !box.isConnected) return;\n\
-    \x20\x20\x20\x20\x20\x20\x20\x20if (!known.has(part)) known.set(part, ask(`show ${atWord()} ${part} ${SLOTS}`, true).then((r) => r.ok ? r.rows.map((x) => x[3]) : []));\n\
-    \x20\x20\x20\x20\x20\x20\x20\x20known.get(part).then((values) => fill(values[slot - first])).catch(() => {});\n\
-    \x20\x20\x20\x20\x20\x20}, 100);\n\
-    \x20\x20\x20\x20}\n\
+    \x20\x20\x20\x20\x20\x20shown = w.startsWith(\"0x\") ? idLink(w) : w;\n\
+    \x20\x20\x20\x20if (w.startsWith(\"0x\")) shown.tabIndex = -1;\n\
+    \x20\x20\x20\x20box.append(\"= \", shown, \" \");\n\
     \x20\x20\x20\x20return box;\n\
-    \x20\x20}\n\
+    \x20\x20};\n\
     \n\
     \x20\x20function told(e) {\n\
     \x20\x20\x20\x20const w = wordsOf(e),\n\
     \x20\x20\x20\x20\x20\x20dim = (t) => el(\"span\", \"dim\", t);\n\
-    \x20\x20\x20\x20if (e.kind === \"put\" || e.kind === \"store\") return [idLink(w[1]), el(\"span\", \"\", nameOfSlot(w[1], w[2])), \" \", wrote(e), ...wasOf(w[3])];\n\
-    \x20\x20\x20\x20if (e.kind === \"reg\") return [el(\"span\", \"\", `register ${w[2]} of mutator ${w[1]}`), \" \", wrote(e), ...wasOf(w[3])];\n\
-    \x20\x20\x20\x20if (e.kind === \"new\") {\n\
-    \x20\x20\x20\x20\x20\x20const o = objectAt(w[1]);\n\
-    \x20\x20\x20\x20\x20\x20return [idLink(w[1]), dim((o && bornAt(o, S.shown) === e.p ? \" \" + o.name : \"\") + ` in register ${w[3]} of mutator ${w[2]}`)];\n\
-    \x20\x20\x20\x20}\n\
+    \x20\x20\x20\x20if (e.kind === \"put\" || e.kind === \"store\") return [idLink(w[1]), el(\"span\", \"\", nameOfSlot(w[1], w[2])), \" \", wrote(w[4]), ...wasOf(w[3])];\n\
+    \x20\x20\x20\x20if (e.kind === \"reg\") return [el(\"span\", \"\", `register ${w[2]} of mutator ${w[1]}`), \" \", wrote(w[4]), ...wasOf(w[3])];\n\
+    \x20\x20\x20\x20if (e.kind === \"new\") return [idLink(w[1]), dim(` ${w[5]} in register ${w[3]} of mutator ${w[2]}`)];\n\
     \x20\x20\x20\x20if (e.kind === \"mark\") return [idLink(w[1]), dim(` ${w[2]} pushed`)];\n\
     \x20\x20\x20\x20if (e.kind === \"sweep\") return [el(\"span\", \"\", \"region \" + w[1]), dim(`, ${w[2]} removed`)];\n\
     \x20\x20\x20\x20if (e.kind === \"reclaim\") return [el(\"span\", \"\", \"region \" + w[1]), dim(\", given back to the pool\")];\n\

@@ -20,6 +20,8 @@ pub mod FoundPaths
 pub mod WaysBack
 pub mod Hops
 pub mod Starting
+pub mod ShortestWays
+pub mod KnownDistances
 pub mod StartSearch
 pub mod PathStarts
 pub mod ToldObjects
@@ -28,6 +30,7 @@ pub mod Walk
 pub mod ChangedSlots
 pub mod WrittenSlots
 pub mod NewestSteps
+pub mod SeenSteps
 pub mod Sizes
 pub mod ImagePaths
 pub mod UnreachedObjects

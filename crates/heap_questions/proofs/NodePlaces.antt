@@ -1,6 +1,6 @@
 -- Nodes stand for the objects of an image.
-use Rattle.std.proofs.Common.{◌≡◌, ℕ, ◌+◌, ◌<◌, ◌≤◌, Bool, cond, List, [], ◌∷◌, ◌++◌, length, map, refl, sym, ap, ap₂, ◌∙◌, subst, inl, inr, arith, rules, take}
-use Rattle.std.specs.Prelude.{slice_get, Option, Some, None, IsSome, not, ◌==◌, IfSome}
+use Rattle.std.proofs.Common.{◌≡◌, ℕ, ◌+◌, ◌<◌, ◌≤◌, Bool, false, cond, List, [], ◌∷◌, ◌++◌, length, map, refl, sym, ap, ap₂, ◌∙◌, subst, inl, inr, arith, rules, take}
+use Rattle.std.specs.Prelude.{slice_get, Option, Some, None, IsSome, is_some, not, ◌==◌, IfSome}
 use Rattle.std.specs.Option.{option_map}
 use Rattle.std.specs.List.{position, position_or_len}
 use Rattle.std.proofs.lemmas.Option.{none-some, same_Some, slice_get_within, slice_get_past, slice_get-map, slice_get_cases, get_or_from_slice_get}
@@ -113,3 +113,15 @@ object_found image places nodes x j n e =
     let w = node_within nodes x j e in
     let o = item_of_list_within image.objects j (omega (arith, w, as_many image places nodes n)) in
     subst IsSome (sym (object_of_node image places nodes x j n e ∙ o.1)) (search rules)
+
+-- what is an object has a node, and nothing else
+pub has_node : (image : Image) (places : List ObjRef) (nodes : List Node) (x : ℕ) → AreNodes image places nodes → is_some (node_with nodes x) ≡ is_some (object_with image x)
+has_node image places nodes x n = go (node_with nodes x) refl
+  where
+    none : (o : Option DumpedObject) → object_with image x ≡ o → node_with nodes x ≡ None → false ≡ is_some o
+    none None e f = refl
+    none (Some o) e f = let j = node_of_object image places nodes x n (subst IsSome (sym e) refl) in absurd (none-some j.0 (sym f ∙ j.1))
+
+    go : (j : Option ℕ) → node_with nodes x ≡ j → is_some j ≡ is_some (object_with image x)
+    go None f = none (object_with image x) refl f
+    go (Some j) f = sym (object_found image places nodes x j n f)

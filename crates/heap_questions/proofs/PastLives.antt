@@ -17,8 +17,7 @@ use Rattle.heap_step.specs.declared.Undo.TheVariants.{Reclaim}
 use Rattle.heap_trail.specs.Laws.{IsTrail}
 use Rattle.heap_trail.specs.Trail.{Trail, retained, state_ago}
 use Rattle.heap_questions.specs.Lives.{AreLives, BeginsAgo, HasId, HasStayed, IsLifeAgo, IsLifeIf, before_lives, stands_in, stood_in}
-use Rattle.heap_questions.specs.Newest.{storage_cell_size}
-use Rattle.heap_questions.specs.PastTrails.{HasCellSize, IsCellOf, size_before, stood_before}
+use Rattle.heap_questions.specs.PastTrails.{HasCellSize, IsCellOf, size_before, stood_before, storage_cell_size}
 use Rattle.heap_questions.specs.declared.past.lives.Life.{Life}
 use Rattle.heap_questions.proofs.PastIds.{regions_ago}
 use Rattle.heap_questions.proofs.PastTrails.{cell_found, cell_named, found_none, region_named, size_step, stood_step}

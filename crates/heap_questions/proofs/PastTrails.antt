@@ -34,8 +34,7 @@ use Rattle.heap_trail.proofs.RetainedRecords.{HasRecord, has_record}
 use Rattle.heap_trail.proofs.Rewinds.{retained_after_rewind}
 use Rattle.heap_trail.proofs.RewoundMachines.{rewind_done}
 use Rattle.heap_questions.specs.Changes.{made_by}
-use Rattle.heap_questions.specs.Newest.{storage_cell_size}
-use Rattle.heap_questions.specs.PastTrails.{HasCellSize, IsCellOf, IsPast, id_with, size_before, sized_cell, stood_before}
+use Rattle.heap_questions.specs.PastTrails.{HasCellSize, IsCellOf, IsPast, id_with, size_before, sized_cell, stood_before, storage_cell_size}
 use Rattle.heap_questions.proofs.ImagePaths.{id_back}
 use Rattle.heap_questions.proofs.NewestSteps.{left_there}
 use Rattle.heap_questions.proofs.PastIds.{sized}

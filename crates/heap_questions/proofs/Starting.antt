@@ -78,10 +78,10 @@ start_found image earlier i y e h =
     start_of image earlier (i / slot_span) (i % slot_span) y (named_object_id image (start_names image earlier (i / slot_span) (i % slot_span)) y g.1 h)
 
 -- an object has fewer slots than there are numbers for
-abbrev place_with : Image → ℕ → ℕ
+abbrev pub place_with : Image → ℕ → ℕ
 place_with image x = position_or_len (λ (o : DumpedObject). o.id == x) image.objects
 
-object_at : (image : Image) (x : ℕ) → object_with image x ≡ slice_get image.objects (place_with image x)
+pub object_at : (image : Image) (x : ℕ) → object_with image x ≡ slice_get image.objects (place_with image x)
 unfolding object_with
 object_at image x = find_at (λ (o : DumpedObject). o.id == x) image.objects
 
@@ -113,7 +113,7 @@ no_start image earlier r low high few none i y above below e h =
 
 -- ---- paths from a start
 
-same_followed : (image : Image) (registers : List ℕ) (slots : List ℕ) (x : ℕ) → followed (with_registers image registers) x slots ≡ followed image x slots
+pub same_followed : (image : Image) (registers : List ℕ) (slots : List ℕ) (x : ℕ) → followed (with_registers image registers) x slots ≡ followed image x slots
 same_followed image registers [] x = refl
 same_followed image registers (s ∷ ss) x = ap (option_and_then (λ y. followed (with_registers image registers) y ss)) (same_named image registers x s) ∙ after (named image x s) (λ y. same_followed image registers ss y)
   where

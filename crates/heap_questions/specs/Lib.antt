@@ -9,6 +9,7 @@ pub mod Kept
 pub mod Hops
 pub mod PathsApart
 pub mod Starts
+pub mod Distances
 pub mod Wanted
 pub mod ObjectLists
 pub mod Registers

@@ -1,16 +1,20 @@
 -- The newest retained steps, and the objects that they wrote or created.
-use Rattle.std.specs.Prelude.{◌≡◌, ℕ, ◌+◌, ◌-◌, ◌*◌, ◌/◌, ◌≤◌, List, drop, length, map, zip, Option, Some, None, option_map, slice_set, slice_index_or, unwrap_or, All}
+use Rattle.std.specs.Prelude.{ℕ, ◌-◌, ◌<◌, List, [], drop, length, map, zip, Option, Some, None, slice_index_or}
 use Rattle.std.specs.List.{range_with_len}
+use Rattle.std.specs.Option.{option_map_or}
+use Rattle.heap_class.specs.declared.ObjKind.TheVariants.{Instance}
 use Rattle.heap_class.specs.declared.ObjRef.{ObjRef}
-use Rattle.heap_region.specs.Limits.{heap_words, region_words}
-use Rattle.heap_region.specs.Regions.{Region, UsedRegion, block_words, id_of, object_base, used_at}
-use Rattle.heap_world.specs.State.{HeapState}
+use Rattle.heap_region.specs.Regions.{id_of, object_at}
+use Rattle.heap_world.specs.State.{HeapState, register_index}
 use Rattle.heap_step.specs.declared.Undo.{Undo}
 use Rattle.heap_step.specs.declared.Undo.TheVariants.{Put, Store, Reg, New, Class, Snap, Mark, Drain, Finish, Sweep, Reclaim}
+use Rattle.heap_pins.specs.Pin.{PinContents}
+use Rattle.hprof_text.specs.Image.{DumpedObject}
 use Rattle.heap_trail.specs.Trail.{Trail, state_ago}
 use Rattle.heap_questions.specs.declared.past.events.PastEvent.{PastEvent}
 use Rattle.heap_questions.specs.declared.past.events.PastEvent.TheVariants.{Register}
 use Rattle.heap_questions.specs.declared.past.steps.PastStep.{PastStep}
+use Rattle.heap_questions.specs.SlotWrites.{SeesObject, SeesSlotOf}
 
 -- the place of the object that a step with this record wrote or created, if it did
 abbrev pub written_at : Undo → Option ObjRef
@@ -19,56 +23,47 @@ written_at (Store at slot old logged) = Some at
 written_at (New at fresh m r old) = Some at
 written_at left = None
 
--- what a step with this record did, of which x is the id of the object that it wrote or created
-abbrev pub event_with : Undo → ℕ → PastEvent
-event_with (Put at slot old) x = PastEvent.Put x slot old
-event_with (Store at slot old logged) x = PastEvent.Store x slot old
-event_with (Reg m r old) x = Register m r old
-event_with (New at fresh m r old) x = PastEvent.New x m r old
-event_with Class x = PastEvent.Class
-event_with Snap x = PastEvent.Snap
-event_with (Mark parent pushed) x = PastEvent.Mark parent pushed
-event_with (Drain pushed) x = PastEvent.Drain pushed
-event_with (Finish log) x = PastEvent.Finish (length log)
-event_with (Sweep region dead) x = PastEvent.Sweep region (length dead)
-event_with (Reclaim region storage) x = PastEvent.Reclaim region
+-- what a step with this record did and wrote, if f gives the objects after it by their places, and rs are the registers then
+abbrev pub event_by : (ObjRef → DumpedObject) → List ℕ → Undo → PastEvent
+event_by f rs (Put at slot old) =
+    PastEvent.Put (f at).id slot old (slice_index_or (f at).words slot 0)
+event_by f rs (Store at slot old logged) =
+    PastEvent.Store (f at).id slot old (slice_index_or (f at).words slot 0)
+event_by f rs (Reg m r old) = Register m r old (slice_index_or rs (register_index m r) 0)
+event_by f rs (New at fresh m r old) = PastEvent.New (f at).id m r old (f at).kind
+event_by f rs Class = PastEvent.Class
+event_by f rs Snap = PastEvent.Snap
+event_by f rs (Mark parent pushed) = PastEvent.Mark parent pushed
+event_by f rs (Drain pushed) = PastEvent.Drain pushed
+event_by f rs (Finish log) = PastEvent.Finish (length log)
+event_by f rs (Sweep region dead) = PastEvent.Sweep region (length dead)
+event_by f rs (Reclaim region storage) = PastEvent.Reclaim region
 
--- the id of the object that a step with this record wrote or created; 0 if there is none
-abbrev pub id_written : List Region → Undo → ℕ
-id_written regions left = unwrap_or (option_map (id_of regions) (written_at left)) 0
+-- the object at a place, as a dump shows it; one without an id if there is none
+abbrev pub object_of_state : HeapState → ObjRef → DumpedObject
+object_of_state w at =
+    option_map_or (λ o. record { id = id_of w.regions at; kind = o.kind; words = o.words })
+    (object_at w.regions at) (record { id = 0; kind = Instance 0; words = [] })
 
--- the step to the state of n steps ago, which left this record: the place that it led to, and what it did
+-- what a step to the state w did and wrote, which left this record
+abbrev pub event_to : HeapState → Undo → PastEvent
+event_to w left = event_by (object_of_state w) w.registers left
+
+-- the step to the state of n steps ago, which left this record: the place that it led to, and what it did and wrote
 abbrev pub past_step : Trail → ℕ → Undo → PastStep
-past_step t n left =
-    record {
-      place = t.place - n;
-      event = event_with left (id_written (state_ago n t).regions left);
-    }
+past_step t n left = record { place = t.place - n; event = event_to (state_ago n t) left }
 
 -- the newest `count` of the retained steps that led to the state of `ago` steps ago, or all if there are fewer, the newest first
 unfoldable pub steps_back : Trail → ℕ → ℕ → List PastStep
 steps_back t ago count =
     map (λ p. past_step t p.0 p.1) (zip (range_with_len ago count) (drop ago t.records))
 
--- ---- cell sizes
+-- ---- a pin that shows the state after a step
 
--- the sizes of the cells of regions in use
-pub record AreCellSizes (w : HeapState) (sizes : List ℕ) : Type 0 where
-  pub many : length sizes ≡ length w.regions
-  pub small : All (λ s. s ≤ heap_words) sizes
-  pub used : (r : ℕ) (u : UsedRegion) → used_at w.regions r ≡ Some u
-      → slice_index_or sizes r 0 ≡ u.cell_size
-
--- the size of the cells of a region, or of the cell of a large object, which fill their regions
-abbrev pub storage_cell_size : UsedRegion → ℕ
-storage_cell_size u = block_words u.cell_size / length u.cells
-
--- the sizes before a step with this record, from those after it
-abbrev pub sizes_before : Undo → List ℕ → List ℕ
-sizes_before (Reclaim region storage) sizes = slice_set sizes region (storage_cell_size storage)
-sizes_before left sizes = sizes
-
--- the id of the object at a place, by the size of its region's cells
-abbrev pub id_by : List ℕ → ObjRef → ℕ
-id_by sizes at =
-    object_base + 8 * (region_words * at.region + at.cell * slice_index_or sizes at.region 0)
+-- it shows what the step with this record wrote: an object with the slot, a register, or a new object
+abbrev pub SeesStep : PinContents → HeapState → Undo → Type 0
+SeesStep p w (Put at slot old) = SeesSlotOf p w at slot
+SeesStep p w (Store at slot old logged) = SeesSlotOf p w at slot
+SeesStep p w (Reg m r old) = register_index m r < length p.registers
+SeesStep p w (New at fresh m r old) = SeesObject p w at
+SeesStep p w left = Unit {0}

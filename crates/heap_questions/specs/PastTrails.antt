@@ -1,9 +1,9 @@
 -- The trail up to a retained state, and what the records of the steps since tell of it.
-use Rattle.std.specs.Prelude.{◌≡◌, ℕ, ◌+◌, ◌-◌, ◌*◌, ◌/◌, ◌%◌, ◌≤◌, ◌==◌, ◌&&◌, ◌||◌, Bool, not, ◌∷◌, Option, Some, None, option_map, is_some, if◌then◌else◌}
+use Rattle.std.specs.Prelude.{◌≡◌, ℕ, ◌+◌, ◌-◌, ◌*◌, ◌/◌, ◌%◌, ◌≤◌, ◌==◌, ◌&&◌, ◌||◌, Bool, not, ◌∷◌, length, Option, Some, None, option_map, is_some, if◌then◌else◌}
 use Rattle.std.specs.List.{list_any}
 use Rattle.heap_class.specs.declared.ObjRef.{ObjRef}
 use Rattle.heap_region.specs.Limits.{region_words}
-use Rattle.heap_region.specs.Regions.{UsedRegion, cell_object, object_base, used_at}
+use Rattle.heap_region.specs.Regions.{UsedRegion, block_words, cell_object, object_base, used_at}
 use Rattle.heap_world.specs.State.{HeapState}
 use Rattle.heap_step.specs.declared.Undo.{Undo}
 use Rattle.heap_step.specs.declared.Undo.TheVariants.{New, Sweep, Reclaim}
@@ -14,7 +14,6 @@ use Rattle.heap_trail.specs.Laws.{IsTrail}
 use Rattle.heap_trail.specs.Trail.{Trail, state_ago}
 use Rattle.heap_questions.specs.declared.past.seen.SeenSlot.{SeenSlot}
 use Rattle.heap_questions.specs.Changes.{made_by, slot_word}
-use Rattle.heap_questions.specs.Newest.{storage_cell_size}
 use Rattle.heap_questions.specs.SlotChanges.{refers_at}
 
 -- a trail of legal states, each of which came from the one before it
@@ -46,6 +45,10 @@ stood_before (Sweep region dead) at now =
 stood_before (Reclaim region storage) at now =
     if at.region == region then is_some (cell_object storage at.cell) else now
 stood_before left at now = now
+
+-- the size of the cells of a region, or of the cell of a large object, which fill their regions
+abbrev pub storage_cell_size : UsedRegion → ℕ
+storage_cell_size u = block_words u.cell_size / length u.cells
 
 -- the size of the cells of a region before the step, from that after it
 abbrev pub size_before : Undo → ℕ → ℕ → ℕ

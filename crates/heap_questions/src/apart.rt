@@ -1,18 +1,23 @@
 //! Why an object is alive, in several ways: paths of which no two start alike.
-ghost use Rattle.std.specs.Prelude.{◌≡◌, ◌∷◌, ◌/◌, ◌%◌, ◌<◌, ◌&&◌, [], ℕ, All, length, map, not, reverse, slice_get, Some, IfSome, IfNone, IfOk, IfErr};
+ghost use Rattle.std.specs.Prelude.{◌≡◌, ◌∷◌, ◌/◌, ◌%◌, ◌<◌, ◌&&◌, [], ℕ, All, length, map, not, reverse, slice_get, Some, IfSome, IfNone, IfOk, IfErr, IsTrue};
 ghost use Rattle.std.specs.List.{list_any};
 ghost use Rattle.heap_class.specs.declared.Refusal.TheVariants.{NoMemory};
-ghost use Rattle.heap_questions.specs.Graph.{IsFirstPath, IsShortest};
+ghost use Rattle.heap_questions.specs.Distances.{AreDistances, distance_by};
+ghost use Rattle.heap_questions.specs.Graph.{HasId, IsFirstPath, IsShortest};
 ghost use Rattle.hprof_text.specs.Image.{Image};
 ghost use Rattle.heap_questions.specs.Hops.{TellsIds};
 ghost use Rattle.heap_questions.specs.PathsApart.{AreFirstPaths, IsNextPath, NoneIsLeft, Route, route_of};
 ghost use Rattle.heap_questions.specs.Search.{AreNodes, HasSearchedFor, node_with, slot_span};
 ghost use Rattle.heap_questions.specs.Starts.{IsFirstFree, NoneIsFree, first_hop, starts_at, with_starts};
 
+use crate::back::distances_back;
+use crate::distances::are_distances;
+use crate::nearest::{Start, nearest_start};
 use crate::nodes::NodeList;
 use crate::paths::{Hop, Path, WayBack, place_in, way_back};
 use crate::search::{Reach, SLOT_SPAN, nothing_found, search_on};
 use crate::starts::find_starts;
+use crate::ways::add_way;
 use heap_class::Refusal;
 use hprof_text::View;
 use std::alloc::{AllocError, Global};
@@ -27,7 +32,7 @@ pub fn first_of_paths_is_path()
 
 /// Returns `most` paths to the object with this id, of which no two start at the same register by the same slot, or as many as
 /// there are: each is the shortest that starts like none of those before it, of all such the first by register, then by slot.
-/// Fails with NoMemory. For each path it reads each object at most twice, and once more for each register that names it.
+/// Fails with NoMemory. Reads each object twice, and for each path the objects along it and those that registers name.
 pub fn paths_apart<V: View>(
     alloc: Global,
     view: &V,
@@ -40,14 +45,47 @@ pub fn paths_apart<V: View>(
     ensures refused { IfErr result (λ e. e ≡ NoMemory) }
 {
     let nodes = NodeList::new(alloc, view)?;
+    let table = find_distances(alloc, view, &nodes, id)?;
+    let known = table.as_slice();
+    let exact = are_told(view, &nodes, known, id);
     let mut paths = Vec::new(alloc);
     while paths.len() < most {
-        match next_path(alloc, view, &nodes, id, paths.as_slice())? {
+        match next_path(alloc, view, &nodes, known, exact, id, paths.as_slice())? {
             Some(path) => paths.push(path)?,
             None => return Ok(paths),
         }
     }
     Ok(paths)
+}
+
+// Returns for each node how far its object may be from the one with this id, if there is one. The nodes must be the view's. Fails
+// with NoMemory.
+fn find_distances<V: View>(
+    alloc: Global,
+    view: &V,
+    nodes: &NodeList,
+    id: u64,
+) -> Result<Vec<u32>, Refusal>
+    requires { AreNodes (V.image view.now) (V.places view.now) nodes.now }
+    ensures refused { IfErr result (λ e. e ≡ NoMemory) }
+{
+    match nodes.find(id) {
+        Some(goal) => distances_back(alloc, view, nodes, goal),
+        None => Ok(Vec::new(alloc)),
+    }
+}
+
+// Tells whether a table has the distance of each node's object from the one with this id, which must be there for that. The nodes
+// must be the view's.
+fn are_told<V: View>(view: &V, nodes: &NodeList, table: &[u32], id: u64) -> bool
+    requires { AreNodes (V.image view.now) (V.places view.now) nodes.now }
+    ensures { IsTrue result
+        → AreDistances (V.image view.now) (distance_by nodes.now table.now) id }
+{
+    match nodes.find(id) {
+        Some(_) => are_distances(view, nodes, table, id),
+        None => false,
+    }
 }
 
 // Returns the first path to the object with this id that starts like none of these paths. The nodes must be the view's. Fails with
@@ -56,10 +94,14 @@ fn next_path<V: View>(
     alloc: Global,
     view: &V,
     nodes: &NodeList,
+    table: &[u32],
+    exact: bool,
     id: u64,
     paths: &[Path],
 ) -> Result<Option<Path>, Refusal>
-    requires { AreNodes (V.image view.now) (V.places view.now) nodes.now }
+    requires nodes { AreNodes (V.image view.now) (V.places view.now) nodes.now }
+    requires exact { IsTrue exact
+        → AreDistances (V.image view.now) (distance_by nodes.now table.now) id }
     ensures next { IfOk result (λ found. IfSome found (λ p.
         IsNextPath (V.image view.now) (map route_of paths.now) id (route_of p))) }
     ensures ids { IfOk result (λ found. IfSome found (TellsIds (V.image view.now))) }
@@ -68,7 +110,7 @@ fn next_path<V: View>(
     ensures refused { IfErr result (λ e. e ≡ NoMemory) }
 {
     match nodes.find(id) {
-        Some(goal) => next_path_to(alloc, view, nodes, id, goal, paths),
+        Some(goal) => next_path_to(alloc, view, nodes, table, exact, id, goal, paths),
         None => Ok(None),
     }
 }
@@ -78,12 +120,16 @@ fn next_path_to<V: View>(
     alloc: Global,
     view: &V,
     nodes: &NodeList,
+    table: &[u32],
+    exact: bool,
     id: u64,
     goal: usize,
     paths: &[Path],
 ) -> Result<Option<Path>, Refusal>
     requires nodes { AreNodes (V.image view.now) (V.places view.now) nodes.now }
     requires goal { node_with nodes.now id ≡ Some goal }
+    requires exact { IsTrue exact
+        → AreDistances (V.image view.now) (distance_by nodes.now table.now) id }
     ensures next { IfOk result (λ found. IfSome found (λ p.
         IsNextPath (V.image view.now) (map route_of paths.now) id (route_of p))) }
     ensures ids { IfOk result (λ found. IfSome found (TellsIds (V.image view.now))) }
@@ -100,7 +146,13 @@ fn next_path_to<V: View>(
                 hops,
             }))
         }
-        None => path_by_slot(alloc, view, nodes, id, goal, paths),
+        None => {
+            if exact {
+                path_by_distance(alloc, view, nodes, table, id, paths)
+            } else {
+                path_by_slot(alloc, view, nodes, id, goal, paths)
+            }
+        }
     }
 }
 
@@ -138,6 +190,67 @@ fn is_register_alone(path: &Path, register: u64) -> bool
     ensures { result ≡ starts_at register (route_of path.now) }
 {
     path.register == register && path.hops.is_empty()
+}
+
+// Returns the first path to the object with this id that starts like none of these paths, by the distances of all objects from it.
+// At each register that names it one of the paths must start that has no slots. The nodes must be the view's. Fails with NoMemory.
+// Reads the objects that registers name, and those along the path.
+fn path_by_distance<V: View>(
+    alloc: Global,
+    view: &V,
+    nodes: &NodeList,
+    table: &[u32],
+    id: u64,
+    paths: &[Path],
+) -> Result<Option<Path>, Refusal>
+    requires nodes { AreNodes (V.image view.now) (V.places view.now) nodes.now }
+    requires distances { AreDistances (V.image view.now) (distance_by nodes.now table.now) id }
+    requires there { HasId (V.image view.now) id }
+    requires used { NoneIsFree (V.image view.now).registers (map route_of paths.now) id }
+    ensures next { IfOk result (λ found. IfSome found (λ p.
+        IsNextPath (V.image view.now) (map route_of paths.now) id (route_of p))) }
+    ensures ids { IfOk result (λ found. IfSome found (TellsIds (V.image view.now))) }
+    ensures none { IfOk result (λ found. IfNone found
+        (NoneIsLeft (V.image view.now) (map route_of paths.now) id)) }
+    ensures refused { IfErr result (λ e. e ≡ NoMemory) }
+{
+    // Its contract says that what the view shows is within the limits of a dump.
+    let _classes = view.classes();
+    match nearest_start(view, nodes, table, paths) {
+        Some(start) => {
+            let mut hops = Vec::new(alloc);
+            hops.push(hop_of(start))?;
+            add_way(view, nodes, table, start.id, id, &mut hops)?;
+            Ok(Some(path_at(view.registers(), start, hops)))
+        }
+        None => Ok(None),
+    }
+}
+
+// Returns the step that a start is.
+fn hop_of(start: Start) -> Hop
+    ensures { result ≡ first_hop start.number start.id }
+{
+    Hop {
+        slot: (start.number % SLOT_SPAN) as u64,
+        to: start.id,
+    }
+}
+
+// Returns the path with these steps from the register of a start, which must be one of these.
+fn path_at(registers: &[u64], start: Start, hops: Vec<Hop>) -> Path
+    requires { start.number / slot_span < length registers.now }
+    ensures register { result.register ≡ start.number / slot_span }
+    ensures start { slice_get registers.now result.register ≡ Some result.start }
+    ensures hops { result.hops.items ≡ hops.items }
+{
+    let register = (start.number / SLOT_SPAN) as u64;
+    let start = registers[register as usize];
+    Path {
+        register,
+        start,
+        hops,
+    }
 }
 
 // Returns the first path to the object with this id, which is that of a node, that starts like none of these paths. At each

@@ -1,5 +1,5 @@
 //! The objects of a view by their ids.
-ghost use Rattle.std.specs.Prelude.{◌≡◌, ◌++◌, map, IfOk, IfErr, OnOk};
+ghost use Rattle.std.specs.Prelude.{◌≡◌, ◌++◌, is_some, map, IfOk, IfErr, OnOk};
 ghost use Rattle.heap_class.specs.declared.Refusal.TheVariants.{NoMemory};
 ghost use Rattle.heap_questions.specs.Graph.{object_with};
 
@@ -43,6 +43,14 @@ impl<'a, V: View> ObjectIndex<'a, V> {
         ensures { result ≡ object_with self.now id }
     {
         shown_with(self.view, &self.nodes, id)
+    }
+
+    /// Tells whether there is an object with this id.
+    #[tactic(auto, using(crate::proofs::NodePlaces::has_node))]
+    pub fn has_object(&self, id: u64) -> bool
+        ensures { result ≡ is_some (object_with self.now id) }
+    {
+        self.nodes.find(id).is_some()
     }
 
     // Adds the ids of the objects, in the order of a dump. Fails if an allocation fails.

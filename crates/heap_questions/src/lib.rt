@@ -2,14 +2,17 @@
 #![tactic(auto)]
 
 mod apart;
+mod back;
 mod cells;
 mod differences;
+mod distances;
 mod dominators;
 mod garbage;
 mod growth;
 mod held_values;
 mod index;
 mod kept;
+mod nearest;
 mod nodes;
 mod object_list;
 mod objects;
@@ -23,6 +26,7 @@ mod rows;
 mod search;
 mod starts;
 mod wanted;
+mod ways;
 
 pub use apart::{first_of_paths_is_path, paths_apart};
 pub use cells::{CellState, CellStates};

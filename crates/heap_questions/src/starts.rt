@@ -95,7 +95,7 @@ fn is_free_start(
 }
 
 // Tells whether one of these paths starts at this register by this slot.
-fn is_start_used(paths: &[Path], register: u64, slot: u64) -> bool
+pub(crate) fn is_start_used(paths: &[Path], register: u64, slot: u64) -> bool
     ensures { result ≡ list_any (λ p. starts_by register slot (route_of p)) paths.now }
 {
     paths.iter().any(|path| starts_by(path, register, slot))
@@ -120,7 +120,7 @@ fn begins_with(hops: &[Hop], slot: u64) -> bool
 }
 
 // Returns the number of the start at a register by a slot.
-fn start_number(register: usize, slot: usize) -> u32
+pub(crate) fn start_number(register: usize, slot: usize) -> u32
     requires register { register < register_limit }
     requires slot { slot < slot_span }
     ensures { result ≡ register * slot_span + slot }

@@ -38,7 +38,7 @@ block_of_run size lt = (cond-false (nat_le size 1024) 1024 size (lt-leb size 102
 pub run_size_is_larger_than_region : (size : ℕ) → IsRunSize size → 1024 < size
 run_size_is_larger_than_region size r = omega (arith, r.1, r.3)
 
--- n cells that have all words of a region are so many
+-- the number of cells that have all words of a region
 cells_of_region : (n size : ℕ) → IsCellSize size → n * size ≡ 1024 → n ≡ 1024 / size
 cells_of_region n size (inl e) h = rw e (let g : n * 4 ≡ 1024 = ap (λ x. n * x) (sym e) ∙ h in omega arith)
 cells_of_region n size (inr (inl e)) h = rw e (let g : n * 16 ≡ 1024 = ap (λ x. n * x) (sym e) ∙ h in omega arith)
@@ -117,7 +117,7 @@ listed_size_bounds n listed = go listed
 
 -- ---- the size for an object
 
--- whole regions hold so many words
+-- the words that whole regions hold
 pub regions_hold_words : (n : ℕ) → (n ≤ 1024 * regions_for n) × (1024 * regions_for n ≤ n + 1023)
 unfolding regions_for
 regions_hold_words n = (omega arith, omega arith)

@@ -16,11 +16,11 @@ use Rattle.heap_region.proofs.TurnedSlots.{turned_region_stays_whole, turned_bac
 
 -- ---- four turns are none
 
-bit_flipped_twice : (b : Bool) → not (not b) ≡ b
+pub bit_flipped_twice : (b : Bool) → not (not b) ≡ b
 bit_flipped_twice true = refl
 bit_flipped_twice false = refl
 
-cells_turned_and_back : (cells : List (Option Object)) → map (option_map turned_back_object) (map (option_map turned_object) cells) ≡ cells
+pub cells_turned_and_back : (cells : List (Option Object)) → map (option_map turned_back_object) (map (option_map turned_object) cells) ≡ cells
 cells_turned_and_back [] = refl
 cells_turned_and_back (None ∷ cells) = ap (λ (l : List (Option Object)). None ∷ l) (cells_turned_and_back cells)
 cells_turned_and_back (Some o ∷ cells) = λ i. Some (record o { live = bit_flipped_twice o.live i }) ∷ cells_turned_and_back cells i

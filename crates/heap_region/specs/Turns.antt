@@ -24,14 +24,14 @@ unfoldable pub turned_back_region : UsedRegion → UsedRegion
 turned_back_region u =
     record u { cells = map (option_map turned_back_object) u.cells; pending = not u.pending }
 
--- a region after so many turns, modulo 4
+-- a region after a number of turns, modulo 4
 unfoldable pub turned_by : Quarter → UsedRegion → UsedRegion
 turned_by Zero u = u
 turned_by One u = turned_region u
 turned_by Two u = turned_region (turned_region u)
 turned_by Three u = turned_back_region u
 
--- an object after so many turns, modulo 4
+-- an object after a number of turns, modulo 4
 abbrev pub object_turned_by : Quarter → Object → Object
 object_turned_by Zero o = o
 object_turned_by One o = turned_object o

@@ -64,7 +64,7 @@ impl FrozenRegion {
         self.block.turn_back();
     }
 
-    // Turns the bits of all objects so many times, modulo 4.
+    // Turns the bits of all objects `turns` times, modulo 4.
     #[tactic(auto, unfolding(crate::specs::Turns::turned_by))]
     pub(crate) fn turn_by(&mut self, turns: Quarter)
         ensures { (u : UsedRegion) → self.old ≡ frozen u → self.new ≡ frozen (turned_by turns u) }

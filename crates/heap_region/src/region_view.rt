@@ -37,7 +37,7 @@ impl<'a> Model for RegionView<'a> {
     ghost view = { λ v. turned_by (since v.turns v.seen) v.storage.now };
 }
 
-// Returns the two bits of an object, `live` and `mark`, after so many turns.
+// Returns the two bits of an object, `live` and `mark`, after `turns` turns.
 fn bits_turned(bits: (bool, bool), turns: Quarter) -> (bool, bool)
     ensures { (o : Object) → o.live ≡ bits.0 → o.mark ≡ bits.1
         → (result.0 ≡ (object_turned_by turns o).live)
@@ -52,7 +52,7 @@ fn bits_turned(bits: (bool, bool), turns: Quarter) -> (bool, bool)
     }
 }
 
-// Tells whether a region waits to be swept, after so many turns.
+// Tells whether a region waits to be swept, after `turns` turns.
 fn pending_turned(pending: bool, turns: Quarter) -> bool
     ensures { (u : UsedRegion) → u.pending ≡ pending → result ≡ (turned_by turns u).pending }
 {
@@ -64,7 +64,7 @@ fn pending_turned(pending: bool, turns: Quarter) -> bool
     }
 }
 
-// Returns the counts of objects after so many turns.
+// Returns the counts of objects after `turns` turns.
 fn counts_turned(counts: Counts, turns: Quarter) -> Counts
     requires { (u : UsedRegion) × AreCounted u.cells counts }
     ensures { (u : UsedRegion) → AreCounted u.cells counts

@@ -252,7 +252,7 @@ impl Storage {
         self.pending = !self.pending;
     }
 
-    // Turns the bits so many times, modulo 4.
+    // Turns the bits `turns` times, modulo 4.
     #[tactic(auto, unfolding(crate::specs::Turns::turned_by))]
     #[inline(never)]
     pub(crate) fn turn_by(&mut self, turns: Quarter)

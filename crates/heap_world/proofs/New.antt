@@ -44,7 +44,7 @@ use Rattle.heap_region.proofs.ShownRegions.{unused_region_has_no_object}
 -- ---- a region with room
 
 -- rs1 and ps1 are rs and ps, perhaps with a region taken from the pool, and have room at a place
-record IsOpened (start : ℕ) (rs rs1 : List Region) (ps ps1 : List ℕ) (at : ObjRef) (s : ℕ) : Type 0 where
+record IsPlaceOpened (start : ℕ) (rs rs1 : List Region) (ps ps1 : List ℕ) (at : ObjRef) (s : ℕ) : Type 0 where
   count : length rs1 ≡ length rs
   places : (b : ObjRef) → object_at rs1 b ≡ object_at rs b
   names : (x : ℕ) → object_of rs1 x ≡ object_of rs x
@@ -56,7 +56,7 @@ record IsOpened (start : ℕ) (rs rs1 : List Region) (ps ps1 : List ℕ) (at : O
 
 -- a region in use has room where its free list isn't empty
 opened_in_use : (start : ℕ) (rs : List Region) (ps : List ℕ) (n : ℕ) (at : ObjRef) → ((k : ℕ) (u : UsedRegion) → used_at rs k ≡ Some u → IsPartition u) → NamesSpare start ps rs → IsArea rs start
-    → IsNextFree n rs at → IsOpened start rs rs ps ps at (cell_size_for n)
+    → IsNextFree n rs at → IsPlaceOpened start rs rs ps ps at (cell_size_for n)
 opened_in_use start rs ps n at tables pools area h = record {
   count = refl;
   places = λ b. refl;
@@ -124,7 +124,7 @@ names_by rs ts x e h = ap (option_and_then (object_at ts)) e ∙ go (ref_of rs x
     go (Some b) = h b
 
 fresh_region_opens_room : (s : RegionPool) (n r : ℕ) → IsRegionPool s → IsSpare n s r
-    → IsOpened s.area_start s.regions (set s.regions r (InUse (fresh_region (cell_size_for n)))) s.pool (if nat_lt r s.area_start then drop 1 s.pool else s.pool) (record { region = r; cell = 0 }) (cell_size_for n)
+    → IsPlaceOpened s.area_start s.regions (set s.regions r (InUse (fresh_region (cell_size_for n)))) s.pool (if nat_lt r s.area_start then drop 1 s.pool else s.pool) (record { region = r; cell = 0 }) (cell_size_for n)
 unfolding fresh_region
 fresh_region_opens_room s n r legal spare = record {
   count = length_set rs r (InUse fresh);
@@ -227,17 +227,17 @@ abbrev heap_with_regions_and_pool : HeapState → List Region → List ℕ → H
 heap_with_regions_and_pool w ts qs = record w { regions = ts; pool = qs }
 
 -- each id but the new object's names what it did
-other_ids_name_as_before : (w : HeapState) (rs1 ts : List Region) (qs : List ℕ) (at : ObjRef) (o : Object) (s : ℕ) → IsOpened w.area_start w.regions rs1 w.pool qs at s → IsTaken rs1 ts at o s → (x : ℕ) → x ≢ id_of ts at → object_of ts x ≡ object_of w.regions x
+other_ids_name_as_before : (w : HeapState) (rs1 ts : List Region) (qs : List ℕ) (at : ObjRef) (o : Object) (s : ℕ) → IsPlaceOpened w.area_start w.regions rs1 w.pool qs at s → IsTaken rs1 ts at o s → (x : ℕ) → x ≢ id_of ts at → object_of ts x ≡ object_of w.regions x
 other_ids_name_as_before w rs1 ts qs at o s a t x n = t.still_named x n ∙ a.names x
 
 -- what an id named before it is not the new object's
-older_id_is_not_new : (w : HeapState) (rs1 ts : List Region) (qs : List ℕ) (at : ObjRef) (o : Object) (s : ℕ) → IsOpened w.area_start w.regions rs1 w.pool qs at s → IsTaken rs1 ts at o s → (x : ℕ) (p : Object) → object_of w.regions x ≡ Some p → x ≢ id_of ts at
+older_id_is_not_new : (w : HeapState) (rs1 ts : List Region) (qs : List ℕ) (at : ObjRef) (o : Object) (s : ℕ) → IsPlaceOpened w.area_start w.regions rs1 w.pool qs at s → IsTaken rs1 ts at o s → (x : ℕ) (p : Object) → object_of w.regions x ≡ Some p → x ≢ id_of ts at
 older_id_is_not_new w rs1 ts qs at o s a t x p e q = let z : None ≡ Some p = sym t.was_none ∙ a.names (id_of ts at) ∙ ap (object_of w.regions) (sym q) ∙ e in clash p z
   where
     clash : (p : Object) → None ≡ Some p → ⊥
     clash p z = cc
 
-grown_spares : (w : HeapState) (rs1 ts : List Region) (qs : List ℕ) (at : ObjRef) (o : Object) (s n : ℕ) → w.phase ≡ Marking → IsOpened w.area_start w.regions rs1 w.pool qs at s → IsTaken rs1 ts at o s → IsFresh w o n → Spares w (heap_with_regions_and_pool w ts qs)
+grown_spares : (w : HeapState) (rs1 ts : List Region) (qs : List ℕ) (at : ObjRef) (o : Object) (s n : ℕ) → w.phase ≡ Marking → IsPlaceOpened w.area_start w.regions rs1 w.pool qs at s → IsTaken rs1 ts at o s → IsFresh w o n → Spares w (heap_with_regions_and_pool w ts qs)
 grown_spares w rs1 ts qs at o s n phase a t f = record {
   unmarked = λ x u. unmarked x u (same_or_not x (id_of ts at));
   marked = λ x y m k. marked x y m k (same_or_not x (id_of ts at));
@@ -262,7 +262,7 @@ grown_spares w rs1 ts qs at o s n phase a t f = record {
     marked x y m k (inl e) = let b = naming_id_names_an_object (heap_with_regions_and_pool w ts qs) x y k in absurd (zero_words_name_nothing w.classes o n f.words y (subst (λ (z : Object). Contains (references_of w.classes z) y) (new_is x b.0 e b.1) b.2))
     marked x y m k (inr d) = let b = naming_id_names_an_object (heap_with_regions_and_pool w ts qs) x y k in ((m.0, sym (still x d) ∙ m.1, m.2), names_of w x y b.0 (sym (still x d) ∙ b.1) b.2)
 
-grown_legal : (w : HeapState) (rs1 ts : List Region) (qs : List ℕ) (at : ObjRef) (o : Object) (n : ℕ) → HasClauses w → IsOpened w.area_start w.regions rs1 w.pool qs at (cell_size_for n) → IsTaken rs1 ts at o (cell_size_for n) → IsFresh w o n → HasClauses (heap_with_regions_and_pool w ts qs)
+grown_legal : (w : HeapState) (rs1 ts : List Region) (qs : List ℕ) (at : ObjRef) (o : Object) (n : ℕ) → HasClauses w → IsPlaceOpened w.area_start w.regions rs1 w.pool qs at (cell_size_for n) → IsTaken rs1 ts at o (cell_size_for n) → IsFresh w o n → HasClauses (heap_with_regions_and_pool w ts qs)
 grown_legal w rs1 ts qs at o n l a t f = record {
   sized = record { limits = l.sized.limits; regions = subst (λ k. (1 ≤ k) × (k ≤ region_limit)) (sym (t.count ∙ a.count)) l.sized.regions; area = subst (λ n. w.area_start ≡ n - w.limits.area) (sym (t.count ∙ a.count)) l.sized.area; mutators = l.sized.mutators };
   classes = l.classes;
@@ -336,7 +336,7 @@ new_is_fresh : (w : HeapState) (kind : ObjKind) (n : ℕ) → HasKind w.classes 
 unfolding new_object
 new_is_fresh w kind n h = record { fits = new_object_fits_classes w kind n h; words = refl; live = refl; mark = refl }
 
-object_in_room_keeps_clauses : (w : HeapState) (m r n : ℕ) (kind : ObjKind) (rs1 : List Region) (qs : List ℕ) (at : ObjRef) → HasClauses w → HasKind w.classes kind n → IsOpened w.area_start w.regions rs1 w.pool qs at (cell_size_for n)
+object_in_room_keeps_clauses : (w : HeapState) (m r n : ℕ) (kind : ObjKind) (rs1 : List Region) (qs : List ℕ) (at : ObjRef) → HasClauses w → HasKind w.classes kind n → IsPlaceOpened w.area_start w.regions rs1 w.pool qs at (cell_size_for n)
     → let ts : List Region = with_region at.region (filled at.cell (new_object kind n w)) rs1 in HasClauses (with_register m r (id_of ts at) (heap_with_regions_and_pool w ts qs))
 object_in_room_keeps_clauses w m r n kind rs1 qs at l h a = write_legal (heap_with_regions_and_pool w ts qs) m r (id_of ts at) (inr (inr (inr safe))) (grown_legal w rs1 ts qs at (new_object kind n w) n l a t f)
   where
@@ -354,7 +354,7 @@ object_in_room_keeps_clauses w m r n kind rs1 qs at l h a = write_legal (heap_wi
 
 -- the form of a heap after a new object: the regions with room, the pool, and the object's place
 abbrev NewForm : HeapState → ℕ → ℕ → ObjKind → ℕ → HeapState → Type 0
-NewForm w m r kind n v = (rs1 : List Region) × (qs : List ℕ) × (at : ObjRef) × IsOpened w.area_start w.regions rs1 w.pool qs at (cell_size_for n)
+NewForm w m r kind n v = (rs1 : List Region) × (qs : List ℕ) × (at : ObjRef) × IsPlaceOpened w.area_start w.regions rs1 w.pool qs at (cell_size_for n)
     × (v ≡ with_register m r (id_of (with_region at.region (filled at.cell (new_object kind n w)) rs1) at) (heap_with_regions_and_pool w (with_region at.region (filled at.cell (new_object kind n w)) rs1) qs))
 
 form_after_new_object : (w : HeapState) (m r : ℕ) (kind : ObjKind) (n : ℕ) → HasClauses w → is_full n w ≡ false → NewForm w m r kind n (after_new m r kind n w)
@@ -367,13 +367,13 @@ form_after_new_object w m r kind n l room = go (new_place n (pool_of w)) refl ro
     pool_left : ℕ → List ℕ
     pool_left k = if nat_lt k w.area_start then drop 1 w.pool else w.pool
 
-    fresh_at : (at : ObjRef) → IsSpare n (pool_of w) at.region → at.cell ≡ 0 → IsOpened w.area_start w.regions (set w.regions at.region (InUse (fresh_region (cell_size_for (length {A = ℕ} (replicate n 0)))))) w.pool (pool_left at.region) at (cell_size_for n)
-    fresh_at at e c = subst (λ k. IsOpened w.area_start w.regions (set w.regions at.region (InUse (fresh_region (cell_size_for k)))) w.pool (pool_left at.region) at (cell_size_for n)) (sym (length-replicate n 0))
-        (subst (λ k. IsOpened w.area_start w.regions (set w.regions at.region (InUse (fresh_region (cell_size_for n)))) w.pool (pool_left at.region) (record { region = at.region; cell = k }) (cell_size_for n)) (sym c)
+    fresh_at : (at : ObjRef) → IsSpare n (pool_of w) at.region → at.cell ≡ 0 → IsPlaceOpened w.area_start w.regions (set w.regions at.region (InUse (fresh_region (cell_size_for (length {A = ℕ} (replicate n 0)))))) w.pool (pool_left at.region) at (cell_size_for n)
+    fresh_at at e c = subst (λ k. IsPlaceOpened w.area_start w.regions (set w.regions at.region (InUse (fresh_region (cell_size_for k)))) w.pool (pool_left at.region) at (cell_size_for n)) (sym (length-replicate n 0))
+        (subst (λ k. IsPlaceOpened w.area_start w.regions (set w.regions at.region (InUse (fresh_region (cell_size_for n)))) w.pool (pool_left at.region) (record { region = at.region; cell = k }) (cell_size_for n)) (sym c)
         (fresh_region_opens_room (pool_of w) n at.region legal e))
 
     -- the head of the free list of a region in use is where `free_place` finds it
-    opened_at : (at : ObjRef) → IsNextFree n w.regions at → IsOpened w.area_start w.regions w.regions w.pool w.pool at (cell_size_for n)
+    opened_at : (at : ObjRef) → IsNextFree n w.regions at → IsPlaceOpened w.area_start w.regions w.regions w.pool w.pool at (cell_size_for n)
     opened_at at f = opened_in_use w.area_start w.regions w.pool n at l.cells l.pool l.area f
 
     go : (q : Option (ObjRef × Bool)) → new_place n (pool_of w) ≡ q → is_none q ≡ false
@@ -396,7 +396,7 @@ pub found_objects_after_new_object : (w : HeapState) (m r : ℕ) (kind : ObjKind
 found_objects_after_new_object w m r kind n l h room phase x q = let f = form_after_new_object w m r kind n l room in
     subst (λ v. IsMarked v x ⊎ Sheltered v x) (sym f.4) (found f.0 f.1 f.2 f.3 q)
   where
-    found : (rs1 : List Region) (qs : List ℕ) (at : ObjRef) → IsOpened w.area_start w.regions rs1 w.pool qs at (cell_size_for n) → IsMarked w x ⊎ Sheltered w x
+    found : (rs1 : List Region) (qs : List ℕ) (at : ObjRef) → IsPlaceOpened w.area_start w.regions rs1 w.pool qs at (cell_size_for n) → IsMarked w x ⊎ Sheltered w x
         → let v : HeapState = heap_with_regions_and_pool w (with_region at.region (filled at.cell (new_object kind n w)) rs1) qs in IsMarked v x ⊎ Sheltered v x
     found rs1 qs at a (inl k) = inl (
       k.0,

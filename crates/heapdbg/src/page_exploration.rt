@@ -89,7 +89,7 @@ where
 {
     let (shared, seats) = blank.open::<L>();
     let (alloc, time) = (rt.alloc(), request.settings.time);
-    let seat = WatchedSeat::new(alloc, rt, &shared, only_seat(seats), &screen.console.watch);
+    let seat = WatchedSeat::new(alloc, rt, &shared, only_seat(seats), screen.console);
     let mut seat = run_first(rt, request, origin, screen.is_terminal, seat)?;
     let limits = session_limits(request.settings.wide);
     let served = serve_beside_page(

@@ -13,7 +13,10 @@ use crate::fetch::{FetchEnd, fetch_port};
 use crate::page_exploration::explore_with_page;
 use crate::serve::serve_port;
 use dump_pump::{Outlet, WriteOutlet};
-use heap_console::{ColumnOutlet, Console, LineInlet, NewestLine, NotingOutlet, PromptInlet};
+use heap_console::{
+    ColumnOutlet, Console, LineInlet, LoggedInlet, LoggedOutlet, NewestLine, NotingOutlet,
+    PromptInlet, SessionLog,
+};
 use heapdbg_options::command_line::{path_option, settings};
 use heapdbg_options::line_words::borrow_words;
 use heapdbg_options::refusal::bad;
@@ -40,7 +43,7 @@ use std::time::Clock;
 use std::{env, io};
 
 /// Reads the command line, and does the task that it asks for between standard input and standard output. At terminals `explore`
-/// prompts, and shows rows in columns. `draw` reports lines that are refused.
+/// prompts, and shows rows in columns, and a line of it may begin a log. `draw` reports lines that are refused.
 pub(crate) fn perform<R>(rt: &R, terminals: Terminals) -> Result<(), Failure>
 where
     R: AllocGlobal + Clock + Env + Eprint + Files + Input + Print,
@@ -59,15 +62,17 @@ where
     };
     let explores = asks_for(words.as_slice(), "explore");
     let shows = explores && terminals.output;
+    let log = SessionLog::new(rt.alloc());
     let reader = ReadInlet::new(rt.reader());
     if explores && terminals.input && terminals.error {
-        let mut reader = PromptInlet::new(rt, rt.alloc(), &console, reader);
-        perform_shown(rt, words.as_slice(), &mut reader, screen, shows)
+        let reader = PromptInlet::new(rt, rt.alloc(), &console, reader);
+        let mut reader = LoggedInlet::new(rt, &log, reader);
+        perform_shown(rt, words.as_slice(), &mut reader, screen, &log, shows)
     } else if asks_for(words.as_slice(), "draw") {
-        perform_reported(rt, words.as_slice(), screen)
+        perform_reported(rt, words.as_slice(), screen, &log)
     } else {
-        let mut reader = reader;
-        perform_shown(rt, words.as_slice(), &mut reader, screen, shows)
+        let mut reader = LoggedInlet::new(rt, &log, reader);
+        perform_shown(rt, words.as_slice(), &mut reader, screen, &log, shows)
     }
 }
 
@@ -96,6 +101,7 @@ fn perform_shown<R, I: Inlet>(
     words: &[String],
     reader: &mut I,
     screen: Screen<'_>,
+    log: &SessionLog<WriteOutlet<R::File>>,
     shows: bool,
 ) -> Result<(), Failure>
 where
@@ -107,11 +113,12 @@ where
     let input = ReadInlet::new(rt.reader());
     let writer = WriteOutlet::new(io::writer(rt));
     if shows {
-        let mut writer = ColumnOutlet::new(rt.alloc(), &screen.console.heading, writer);
-        perform_words(rt, words, reader, input, &mut writer, screen)
+        let writer = ColumnOutlet::new(rt.alloc(), screen.console, writer);
+        let mut writer = LoggedOutlet::new(rt, log, writer);
+        perform_words(rt, words, reader, input, &mut writer, screen, log)
     } else {
-        let mut writer = writer;
-        perform_words(rt, words, reader, input, &mut writer, screen)
+        let mut writer = LoggedOutlet::new(rt, log, writer);
+        perform_words(rt, words, reader, input, &mut writer, screen, log)
     }
 }
 
@@ -125,6 +132,7 @@ fn perform_words<R, I: Inlet, J: Inlet + Send + Drop + 'static, O: Outlet>(
     input: J,
     writer: &mut O,
     screen: Screen<'_>,
+    log: &SessionLog<WriteOutlet<R::File>>,
 ) -> Result<(), Failure>
 where
     R: Net<Listener = TcpListener, Stream = TcpStream> + Threads + Wait + RandomSource,
@@ -146,7 +154,7 @@ where
         second,
         secret,
     };
-    work(rt, request, screen, reader, input, writer)?;
+    work(rt, request, screen, log, reader, input, writer)?;
     Ok(())
 }
 
@@ -207,6 +215,7 @@ fn work<R, I: Inlet, J: Inlet + Send + Drop + 'static, O: Outlet>(
     rt: &R,
     request: Request<'_>,
     screen: Screen<'_>,
+    log: &SessionLog<WriteOutlet<R::File>>,
     reader: &mut I,
     input: J,
     writer: &mut O,
@@ -222,7 +231,7 @@ where
     match request.settings.task {
         Task::Run(origin) => run(rt, request, origin, screen, reader, writer),
         Task::Explore { origin, page } => {
-            explore_at(rt, request, origin, page, screen, reader, writer)
+            explore_at(rt, request, origin, page, screen, log, reader, writer)
         }
         Task::Draw(origin) => draw(rt, request, origin, screen, reader, writer),
         Task::Save(target) => save_at(rt, request, target, is_terminal, reader, writer),
@@ -239,6 +248,7 @@ fn explore_at<R, I: Inlet, O: Outlet>(
     origin: Origin,
     page: Option<u16>,
     screen: Screen<'_>,
+    log: &SessionLog<WriteOutlet<R::File>>,
     reader: &mut I,
     writer: &mut O,
 ) -> Result<(), Fault>
@@ -251,7 +261,7 @@ where
 {
     match page {
         Some(port) => explore_with_page(rt, request, origin, port, screen, reader, writer),
-        None => explore(rt, request, origin, screen, reader, writer),
+        None => explore(rt, request, origin, screen, log, reader, writer),
     }
 }
 
@@ -380,7 +390,12 @@ fn fetch_to<R: AllocGlobal + Clock + Eprint + Files + Net + Wait, O: Outlet>(
 }
 
 // Does the task that the words ask for, and reports each line of standard input that is refused or no command.
-fn perform_reported<R>(rt: &R, words: &[String], screen: Screen<'_>) -> Result<(), Failure>
+fn perform_reported<R>(
+    rt: &R,
+    words: &[String],
+    screen: Screen<'_>,
+    log: &SessionLog<WriteOutlet<R::File>>,
+) -> Result<(), Failure>
 where
     R: AllocGlobal + Clock + Eprint + Files + Input + Print,
     R: Net<Listener = TcpListener, Stream = TcpStream> + Threads + Wait + RandomSource,
@@ -394,5 +409,5 @@ where
     };
     let input = ReadInlet::new(rt.reader());
     let mut writer = NotingOutlet::new(WriteOutlet::new(io::writer(rt)), &answers);
-    perform_words(rt, words, &mut reader, input, &mut writer, screen)
+    perform_words(rt, words, &mut reader, input, &mut writer, screen, log)
 }

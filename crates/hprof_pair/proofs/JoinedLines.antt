@@ -20,7 +20,7 @@ use Rattle.heap_class.proofs.FirstUses.{bytes_flip, bytes_self}
 use Rattle.heap_step.specs.declared.Event.TheVariants as events
 use Rattle.hprof_plan.specs.Accepted.{class_event, class_lines, class_names, next_name}
 use Rattle.hprof_plan.specs.Names.{given_name, is_clean, other_name}
-use Rattle.hprof_pair.specs.JoinedClasses.{Joined, and_class, and_defined, and_found, and_number, class_line, joined, number_of_line, over, renamed, super_over}
+use Rattle.hprof_pair.specs.JoinedClasses.{Joined, and_class, and_defined, and_found, and_number, class_line, classes_joined, number_of_line, over, renamed, super_over}
 use Rattle.hprof_pair.specs.JoinedSoFar.{AreJoined, IsDefinedAs}
 use Rattle.hprof_pair.specs.declared.joined_classes.JoinedClasses.{JoinedClasses}
 use Rattle.hprof_pair.proofs.NameIds.{name_by_id}
@@ -396,8 +396,8 @@ super_told first j s classes k c numbers above found are there same is told =
 
 -- ---- all classes
 
-pub joined_begins : (limits : ClassLimits) (first : List Class) (j : JoinedClasses) → j.classes ≡ first → j.known.items ≡ map class_line first → j.text.items ≡ [] → j.numbers.items ≡ [] → AreJoined first j (joined limits first [])
-unfolding joined
+pub joined_begins : (limits : ClassLimits) (first : List Class) (j : JoinedClasses) → j.classes ≡ first → j.known.items ≡ map class_line first → j.text.items ≡ [] → j.numbers.items ≡ [] → AreJoined first j (classes_joined limits first [])
+unfolding classes_joined
 joined_begins limits first j classes known text numbers = record {
   classes = classes;
   known = known;
@@ -406,14 +406,14 @@ joined_begins limits first j classes known text numbers = record {
   few = omega arith;
 }
 
-pub joined_next : (limits : ClassLimits) (first second : List Class) (k : ℕ) (j next : JoinedClasses) → k < length second → AreJoined first j (joined limits first (take k second))
-    → ((f : List Class) (s : Joined) (c : Class) → AreJoined f j s → slice_get second k ≡ Some c → AreJoined f next (and_class limits s c)) → AreJoined first next (joined limits first (take (k + 1) second))
-unfolding joined
+pub joined_next : (limits : ClassLimits) (first second : List Class) (k : ℕ) (j next : JoinedClasses) → k < length second → AreJoined first j (classes_joined limits first (take k second))
+    → ((f : List Class) (s : Joined) (c : Class) → AreJoined f j s → slice_get second k ≡ Some c → AreJoined f next (and_class limits s c)) → AreJoined first next (classes_joined limits first (take (k + 1) second))
+unfolding classes_joined
 joined_next limits first second k j next less so_far more =
     let c = get_or second k nameless_class in
     let start : Joined = record { classes = first; numbers = [] } in
     subst (AreJoined first next) (sym (ap (fold (and_class limits) start) (take_more second k nameless_class less) ∙ fold-append (and_class limits) start (take k second) (c ∷ [])))
-    (more first (joined limits first (take k second)) c so_far (class_of_its_number second k less))
+    (more first (classes_joined limits first (take k second)) c so_far (class_of_its_number second k less))
 
 -- ---- steps of one class
 

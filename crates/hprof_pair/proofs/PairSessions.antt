@@ -9,7 +9,7 @@ use Rattle.hprof_lines.specs.Sessions.{root_tags, session_text}
 use Rattle.hprof_convert.proofs.Endings.{found_whole}
 use Rattle.hprof_pair.specs.Dumps.{DumpTold}
 use Rattle.hprof_pair.specs.Events.{second_events}
-use Rattle.hprof_pair.specs.JoinedClasses.{joined}
+use Rattle.hprof_pair.specs.JoinedClasses.{classes_joined}
 use Rattle.hprof_pair.specs.KnownPairs.{IsKnown, IsKnownPair, dump_in_memory, pair_in_memory}
 use Rattle.hprof_pair.specs.Pairs.{PairTold}
 use Rattle.hprof_pair.specs.Sessions.{IsPairSession, Known, collect_line, dump_in, kept_line, pair_in}
@@ -58,7 +58,7 @@ known_makes_a_session elements v w k is p told = record {
     b = known_of elements w k.second.now is.second
 
     numbers : List (Option ℕ)
-    numbers = (joined widest_classes k.first.now.plan.classes (take k.second.now.plan.roots k.second.now.plan.classes)).numbers
+    numbers = (classes_joined widest_classes k.first.now.plan.classes (take k.second.now.plan.roots k.second.now.plan.classes)).numbers
 
     text : PairTold → List ℕ → List ℕ
     text q lines = text_of k v.ids is.first.finds.list q lines

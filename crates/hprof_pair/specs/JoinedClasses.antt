@@ -61,5 +61,5 @@ and_class limits j c =
     option_map_or (λ h. and_found limits j h (number_of_line j.classes h)) (class_over j.numbers c) (and_number j None)
 
 -- the classes of the second dump, one after another, in a heap that has those of the first
-unfoldable pub joined : ClassLimits → List Class → List Class → Joined
-joined limits first second = fold (and_class limits) (record { classes = first; numbers = [] }) second
+unfoldable pub classes_joined : ClassLimits → List Class → List Class → Joined
+classes_joined limits first second = fold (and_class limits) (record { classes = first; numbers = [] }) second

@@ -11,7 +11,7 @@ use Rattle.hprof_lines.specs.Sessions.{root_tags, told_objects}
 use Rattle.hprof_pair.specs.declared.known.KnownDump.{KnownDump}
 use Rattle.hprof_pair.specs.declared.known.KnownPair.{KnownPair}
 use Rattle.hprof_pair.specs.Dumps.{DumpTold, subs_from}
-use Rattle.hprof_pair.specs.JoinedClasses.{joined}
+use Rattle.hprof_pair.specs.JoinedClasses.{classes_joined}
 use Rattle.hprof_pair.specs.JoinedSoFar.{AreJoined}
 use Rattle.hprof_pair.specs.Pairs.{PairTold}
 use Rattle.hprof_pair.specs.Ways.{AreWays, numbers_of, root_ways}
@@ -58,4 +58,4 @@ pub record IsKnownPair (elements : ℕ) (v w : Left) (k : KnownPair) : Type 0 wh
       (root_ways (dump_in_memory k.first.now v.ids).all k.first.now.found.roots.items 0 root_tags) k.both.now.ways.ways.items
   pub found : k.both.now.ways.found.keys ≡ numbers_of k.both.now.ways.ways.items
   pub joined : AreJoined k.first.now.plan.classes k.both.now.joined
-      (joined widest_classes k.first.now.plan.classes (take k.second.now.plan.roots k.second.now.plan.classes))
+      (classes_joined widest_classes k.first.now.plan.classes (take k.second.now.plan.roots k.second.now.plan.classes))

@@ -12,7 +12,7 @@ use Rattle.hprof_lines.specs.Passes.{IsWhole}
 use Rattle.hprof_lines.specs.Sessions.{root_tags, session_text, told_objects}
 use Rattle.hprof_pair.specs.Dumps.{DumpTold, subs_from}
 use Rattle.hprof_pair.specs.Events.{second_events}
-use Rattle.hprof_pair.specs.JoinedClasses.{joined}
+use Rattle.hprof_pair.specs.JoinedClasses.{classes_joined}
 use Rattle.hprof_pair.specs.Pairs.{PairTold}
 use Rattle.hprof_pair.specs.Ways.{AreWays, numbers_of, root_ways}
 use Rattle.hprof_pair.specs.declared.ways.Way.{Way}
@@ -47,7 +47,7 @@ pair_in a b numbers ways = record { first = dump_in a; second = dump_in b; class
 -- the text of the session of two dumps, by ways to the objects of the first
 abbrev pub pair_text : {elements : ℕ} {v w : Left} → Known elements v → Known elements w → List Way → List ℕ
 pair_text {elements} {v} {w} a b ways =
-    let classes = joined widest_classes a.plan.classes (take b.plan.roots b.plan.classes) in
+    let classes = classes_joined widest_classes a.plan.classes (take b.plan.roots b.plan.classes) in
     session_text a.plan v.ids a.found.objects.keys a.items a.found.roots.items
     ++ (kept_line
     ++ (class_lines (drop (length a.plan.classes) classes.classes)

@@ -6,7 +6,7 @@ ghost use Rattle.heap_class.specs.Classes.{Class, IsDefined, fields_of, is_array
 ghost use Rattle.heap_class.specs.Limits.{AreClassLimits};
 ghost use Rattle.heap_class.specs.declared.Refusal.TheVariants.{NoMemory};
 ghost use Rattle.hprof_plan.specs.Accepted.{class_event};
-ghost use Rattle.hprof_pair.specs.JoinedClasses.{Joined, and_class, and_defined, and_found, class_line, joined, number_of_line, over, renamed, super_over};
+ghost use Rattle.hprof_pair.specs.JoinedClasses.{Joined, and_class, and_defined, and_found, class_line, classes_joined, number_of_line, over, renamed, super_over};
 ghost use Rattle.hprof_pair.specs.JoinedSoFar.{AreJoined, IsDefinedAs};
 
 use crate::shapes::class_in;
@@ -41,7 +41,8 @@ pub(crate) fn join_classes(
     requires limits { AreClassLimits limits }
     requires long { 22 ≤ limits.name_bytes }
     requires count { count ≤ length second.now }
-    ensures { IfOk result (λ j. AreJoined first j (joined limits first (take count second.now))) }
+    ensures { IfOk result (λ j. AreJoined first j (classes_joined limits first (take count
+        second.now))) }
 {
     let known = lines_of(alloc, &first)?;
     let mut joined = JoinedClasses {

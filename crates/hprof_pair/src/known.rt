@@ -8,7 +8,7 @@ ghost use Rattle.hprof_plan.specs.Plans.{IsPlan};
 ghost use Rattle.hprof_lines.specs.Passes.{IsWhole, made_from};
 ghost use Rattle.hprof_lines.specs.Sessions.{root_tags, static_ids};
 ghost use Rattle.hprof_pair.specs.Dumps.{dump_told, subs_from};
-ghost use Rattle.hprof_pair.specs.JoinedClasses.{joined};
+ghost use Rattle.hprof_pair.specs.JoinedClasses.{classes_joined};
 ghost use Rattle.hprof_pair.specs.JoinedSoFar.{AreJoined};
 ghost use Rattle.hprof_pair.specs.KnownPairs.{IsKnown, dump_in_memory, pair_in_memory};
 ghost use Rattle.hprof_pair.specs.Pairs.{pair_told};
@@ -155,7 +155,7 @@ pub(crate) fn know_both(
         b.ways.ways.items) }
     ensures found { IfOk result (λ b. b.ways.found.keys ≡ numbers_of b.ways.ways.items) }
     ensures joined { IfOk result (λ b. AreJoined first.now.plan.classes b.joined
-        (joined widest_classes first.now.plan.classes
+        (classes_joined widest_classes first.now.plan.classes
         (take second.now.plan.roots second.now.plan.classes))) }
 {
     let dump = first.dump(ids);
@@ -174,7 +174,7 @@ fn join_known(
     requires first { IsPlan widest_classes elements first.now.found first.now.plan }
     requires second { IsPlan widest_classes elements second.now.found second.now.plan }
     ensures { IfOk result (λ j. AreJoined first.now.plan.classes j
-        (joined widest_classes first.now.plan.classes
+        (classes_joined widest_classes first.now.plan.classes
         (take second.now.plan.roots second.now.plan.classes))) }
 {
     let plan = plan_classes(alloc, WIDEST_CLASSES, elements, &first.found)?;

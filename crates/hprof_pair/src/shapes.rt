@@ -12,9 +12,9 @@ use hprof_session::MADE;
 pub enum Shape {
     /// An instance of a class.
     Instance(ClassNo),
-    /// An array of references of a class, with so many elements.
+    /// An array of references of a class, with its number of elements.
     Array(ClassNo, u64),
-    /// An array of values of a kind, with so many elements.
+    /// An array of values of a kind, with its number of elements.
     Values(Kind, u64),
 }
 

@@ -171,11 +171,15 @@ own_files =
       makes = λ f path w f'. ⊤;
       keeps = λ f path w f'. ⊤;
       removes = λ f path w f'. ⊤;
+      opens = λ f path a f'. ⊤;
+      logs = λ f path begun f'. ⊤;
+      ends_log = λ f f'. ⊤;
     }
 
 -- commands with questions, whose lines write such files
-abbrev pub with_files : Asking → ℕ → Filing (Unit {0})
-with_files c time = record { asking = c; folder = tt; time = time }
+abbrev pub with_files : Asking → ℕ → SessionLimits → Filing (Unit {0})
+with_files c time limits =
+    record { asking = c; folder = tt; time = time; limits = limits; hinting = tt }
 
 -- the same session, whose lines also write files
 abbrev pub IsExplored : Origin → Settings → Incoming → Incoming → Outgoing → Outgoing
@@ -183,6 +187,7 @@ abbrev pub IsExplored : Origin → Settings → Incoming → Incoming → Outgoi
     → Type 0
 IsExplored origin s a b w w' result =
     ((ended : Ended) × (c : Asking) × (left : Filing (Unit {0})) × IsSessionBegun origin s c
-    × ServesFiling own_files (session_limits s.wide) a b (with_files c s.time) w left w' ended
+    × ServesFiling own_files (session_limits s.wide) a b
+    (with_files c s.time (session_limits s.wide)) w left w' ended
     × EndsSession (session_limits s.wide) a b w w' ended × (result ≡ outcome_of ended))
     ⊎ ((f : Fault) × IsHindrance origin f × (result ≡ Err f) × (b ≡ a) × (w' ≡ w))

@@ -11,9 +11,10 @@ use crate::reasons::tell_path;
 use crate::request::Request;
 use crate::terminals::Screen;
 use dump_pump::{Outlet, WriteOutlet};
-use heap_console::picture_of;
+use heap_console::picture_at;
 use heapdbg_options::settings::{Origin, Settings};
 use question_text::{Asking, serve_asking};
+use question_words::At;
 use session_text::{Inlet, Machine, session_limits, write_all};
 use std::fs;
 use std::fs::Files;
@@ -88,7 +89,7 @@ fn write_picture<R: AllocGlobal + Eprint + Files>(
     ensures { (result ≡ Ok tt)
         ⊎ ((result ≡ Err Fault.Out) ⊎ (result ≡ Err Fault.Memory)) }
 {
-    let Ok(picture) = picture_of(rt.alloc(), machine) else {
+    let Ok(picture) = picture_at(rt.alloc(), machine, At::Current) else {
         return Err(Fault::Memory);
     };
     let Some(path) = path else {

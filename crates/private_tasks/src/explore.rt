@@ -1,4 +1,4 @@
-//! A session with questions whose lines also write files.
+//! A session with questions whose lines also write and read files.
 ghost use Rattle.std.specs.Prelude.{◌≡◌, min, IfErr, IfOk};
 ghost use Rattle.heapdbg_options.specs.CommandLine.{IsHeapWithin};
 ghost use Rattle.private_tasks.specs.Explorations.{IsExplored, IsOpening};
@@ -11,7 +11,8 @@ use crate::opening::open_local;
 use crate::own_files::OwnFiles;
 use crate::request::Request;
 use crate::terminals::Screen;
-use dump_pump::Outlet;
+use dump_pump::{Outlet, WriteOutlet};
+use heap_console::{Hinting, SessionLog};
 use heap_files::{Filing, serve_filing};
 use heapdbg_options::settings::{Origin, Settings};
 use question_text::{Asking, Watch};
@@ -20,16 +21,18 @@ use std::alloc::Global;
 use std::fs::Files;
 use std::time::Clock;
 
-/// Runs one session, in which questions are answered and lines write files, over a heap of its own. If `origin` says so, the lines
-/// of the file of the path, or of the session of the dump in it, are run first, and write no files; their answers are not shown, and
-/// each line that is refused is reported on standard error. Why a line writes no file is said on standard error, if that is a
-/// terminal. Fails as a session does, with Memory if the heap can't be allocated, and as `run_first` does.
+/// Runs one session, in which questions are answered and lines write and read files, over a heap of its own. `log` is what puts
+/// into a file what it reads and writes. If `origin` says so, the lines of the file of the path, or of the session of the dump in
+/// it, are run first, and write no files; their answers are not shown, and each line that is refused is reported on standard error.
+/// Why a line writes no file is said on standard error, if that is a terminal. Fails as a session does, with Memory if the heap
+/// can't be allocated, and as `run_first` does.
 #[tactic(auto, using(crate::proofs::Hindrances::no_memory_hinders))]
 pub fn explore<R: AllocGlobal + Clock + Eprint + Files, I: Inlet, O: Outlet>(
     rt: &R,
     request: Request<'_>,
     origin: Origin,
     screen: Screen<'_>,
+    log: &SessionLog<WriteOutlet<R::File>>,
     reader: &mut I,
     writer: &mut O,
 ) -> Result<(), Fault>
@@ -37,20 +40,20 @@ pub fn explore<R: AllocGlobal + Clock + Eprint + Files, I: Inlet, O: Outlet>(
     ensures { IsExplored origin request.entry.settings (I.seen reader.old) (I.seen reader.new)
         (O.seen writer.old) (O.seen writer.new) result }
 {
-    let is_terminal = screen.is_terminal;
     match open(rt.alloc(), &request.settings, &screen.console.watch) {
-        Ok(asking) => explore_on(rt, request, origin, is_terminal, asking, reader, writer),
+        Ok(asking) => explore_on(rt, request, origin, screen, log, asking, reader, writer),
         Err(fault) => Err(fault),
     }
 }
 
 // Runs one session over a heap as it begins, after what `origin` says.
-fn explore_on<R: AllocGlobal + Clock + Eprint + Files, I: Inlet, O: Outlet>(
+fn explore_on<'a, R: AllocGlobal + Clock + Eprint + Files, I: Inlet, O: Outlet>(
     rt: &R,
     request: Request<'_>,
     origin: Origin,
-    is_terminal: bool,
-    asking: Asking<'_>,
+    screen: Screen<'a>,
+    log: &SessionLog<WriteOutlet<R::File>>,
+    asking: Asking<'a>,
     reader: &mut I,
     writer: &mut O,
 ) -> Result<(), Fault>
@@ -58,11 +61,14 @@ fn explore_on<R: AllocGlobal + Clock + Eprint + Files, I: Inlet, O: Outlet>(
     ensures { IsExplored origin request.entry.settings (I.seen reader.old) (I.seen reader.new)
         (O.seen writer.old) (O.seen writer.new) result }
 {
+    let is_terminal = screen.is_terminal;
     let asking = run_first(rt, request, origin, is_terminal, asking)?;
     let Settings { time, wide, .. } = request.settings;
-    let mut filing = Filing::new(asking, OwnFiles::new(rt, is_terminal), time);
+    let files = OwnFiles::new(rt, is_terminal, log);
     let limits = session_limits(wide);
-    let ended = serve_filing(rt.alloc(), reader, writer, &mut filing, limits);
+    let hinting = Hinting::new(&screen.console.hints);
+    let mut filing = Filing::new(asking, files, time, limits, hinting);
+    let ended = serve_filing(rt.alloc(), reader, writer, &mut filing);
     outcome(ended)
 }
 

@@ -83,7 +83,7 @@ fn load<R: AllocGlobal + Clock + Eprint + Files, C: Commands + Drop>(
 const A_FOLDER: i32 = 21;
 
 // Opens a file of lines. Fails if the path is that of a folder, too.
-fn open_lines<R: Files>(rt: &R, path: &str) -> Result<R::File, Error> {
+pub(crate) fn open_lines<R: Files>(rt: &R, path: &str) -> Result<R::File, Error> {
     if is_folder(rt, path) {
         return Err(Error::from_raw_os_error(A_FOLDER));
     }

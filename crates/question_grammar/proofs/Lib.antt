@@ -1,3 +1,4 @@
+pub mod FieldWords
 pub mod NameWords
 pub mod PlaceNames
 pub mod WordParts

@@ -1,5 +1,5 @@
--- Lines of events that name a class or a field: `new`, `newarray`, `load`, `store` and `put`.
-use Rattle.std.specs.Prelude.{ℕ, List, [], ◌∷◌, codes, is_some, nat_lt, slice_get, Option, None, option_map, option_and_then, if◌then◌else◌}
+-- Lines of events that name a class or a field: `class`, `new`, `newarray`, `load`, `store` and `put`.
+use Rattle.std.specs.Prelude.{ℕ, List, [], ◌∷◌, codes, is_some, nat_lt, slice_get, Option, Some, None, option_map, option_and_then, if◌then◌else◌}
 use Rattle.std.specs.Str.{bytes_eq}
 use Rattle.heap_class.specs.Classes.{Class}
 use Rattle.heap_step.specs.declared.Event.{Event}
@@ -7,6 +7,7 @@ use Rattle.heap_step.specs.declared.Event.TheVariants.{New, NewArray, Load, Stor
 use Rattle.heap_world.specs.Limits.{registers_each}
 use Rattle.heap_world.specs.State.{HeapState, register_index}
 use Rattle.session_grammar.specs.Grammar.{at_end, next_number, number_of_word}
+use Rattle.session_grammar.specs.Reads.{DefinesClass, next_name, plain_fields}
 use Rattle.question_grammar.specs.NameWords.{class_named, slot_of_object_named}
 
 -- what a word names, unless it is a number
@@ -29,6 +30,12 @@ next_class classes [] = None
 next_class classes (w ∷ ws) =
     option_map (λ k. (k, ws)) (unless_number w (class_named classes w))
 
+-- the class that the first word names as the super of another, and the other words: `-` is no name
+abbrev pub next_super : List Class → List (List ℕ) → Option (ℕ × List (List ℕ))
+next_super classes [] = None
+next_super classes (w ∷ ws) =
+    if bytes_eq w (codes "-") then None else next_class classes (w ∷ ws)
+
 -- the slot that the first word names in the object of register r of mutator m, and the other words
 abbrev pub next_slot : HeapState → ℕ → ℕ → List (List ℕ) → Option (ℕ × List (List ℕ))
 next_slot state m r [] = None
@@ -36,6 +43,14 @@ next_slot state m r (w ∷ ws) =
     option_map (λ s. (s, ws)) (unless_number w (slot_in_register state m r w))
 
 -- ---- lines
+
+-- `class NAME SUPER FIELD ..`, if the name and the fields are without a bad byte
+abbrev pub class_by_name : List Class → List (List ℕ) → Option Event
+class_by_name classes ws =
+    option_and_then
+    (λ name. option_and_then
+    (λ sup. option_map (λ fields. Event.Class name.0 (Some sup.0) fields) (plain_fields sup.1))
+    (next_super classes name.1)) (next_name ws)
 
 -- `new M R NAME`
 abbrev pub new_by_name : List Class → List (List ℕ) → Option Event
@@ -72,9 +87,9 @@ write_by_name state ws =
     (λ s. option_and_then (λ n. at_end (m.0, r.0, s.0, n.0) n.1) (next_number s.1))
     (next_slot state m.0 r.0 r.1)) (next_number m.1)) (next_number ws)
 
--- the event that the words behind a keyword ask for, by a name of this state
-unfoldable pub event_by_name : HeapState → List ℕ → List (List ℕ) → Option Event
-event_by_name state w ws =
+-- the event on an object that the words behind a keyword ask for, by a name of this state
+unfoldable pub object_event_by_name : HeapState → List ℕ → List (List ℕ) → Option Event
+object_event_by_name state w ws =
     if bytes_eq w (codes "new") then new_by_name state.classes ws
     else (if bytes_eq w (codes "newarray") then array_by_name state.classes ws
     else (if bytes_eq w (codes "load") then load_by_name state ws
@@ -84,7 +99,18 @@ event_by_name state w ws =
     then option_map (λ n. Put n.0 n.1 n.2 n.3) (write_by_name state ws)
     else None))))
 
+-- the event that they ask for
+unfoldable pub event_by_name : HeapState → List ℕ → List (List ℕ) → Option Event
+event_by_name state w ws =
+    if bytes_eq w (codes "class") then class_by_name state.classes ws
+    else object_event_by_name state w ws
+
 -- the same, of which the keyword is the first word
 abbrev pub event_of_words : HeapState → List (List ℕ) → Option Event
 event_of_words state [] = None
 event_of_words state (w ∷ ws) = event_by_name state w ws
+
+-- to read this event, if there is one, takes memory: it defines a class
+abbrev pub MayDefine : Option Event → Type 0
+MayDefine None = ⊥
+MayDefine (Some e) = DefinesClass e

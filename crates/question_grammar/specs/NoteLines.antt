@@ -1,5 +1,5 @@
--- Lines that a session notes, `at @P`, `at -` and `name WORD`; and `open @WORD`.
-use Rattle.std.specs.Prelude.{ℕ, ◌&&◌, not, List, [], ◌∷◌, codes, drop, take, is_some, Option, Some, None, option_and_then, if◌then◌else◌}
+-- Lines that a session notes, `at @P`, `at -` and `name WORD`; and `open` and `open @WORD`.
+use Rattle.std.specs.Prelude.{ℕ, ◌&&◌, not, List, [], ◌∷◌, codes, drop, take, is_some, Option, Some, None, option_map, option_and_then, if◌then◌else◌}
 use Rattle.std.specs.Str.{bytes_eq}
 use Rattle.session_grammar.specs.Grammar.{number_of_word, words_of_line}
 use Rattle.question_grammar.specs.Bookmarks.{Bookmarks, is_place_name, place_named}
@@ -38,10 +38,19 @@ place_by_name b w =
     if bytes_eq (take 1 w) (codes "@") && not (is_some (number_of_word (drop 1 w)))
     then place_named b.names (drop 1 w) else None
 
--- the place on whose state these words open a pin: that of `open @WORD`; `open @P` is a line of the grammar of sessions
-abbrev pub place_opened_by : Bookmarks → List (List ℕ) → Option ℕ
-place_opened_by b ws = option_and_then (λ w. place_by_name b w) (word_behind (codes "open") ws)
+-- the place, or none for the current one, that the words behind `open` name by a name; without a word it is that of the session
+abbrev pub place_behind_open : Bookmarks → List (List ℕ) → Option (Option ℕ)
+place_behind_open b [] = Some b.at
+place_behind_open b (w ∷ []) = option_map Some (place_by_name b w)
+place_behind_open b (w ∷ v ∷ ws) = None
+
+-- the place, or none for the current one, on whose state these words open a pin: that of `open` or `open @WORD`; `open AT` is a
+-- line of the grammar of sessions
+abbrev pub place_opened_by : Bookmarks → List (List ℕ) → Option (Option ℕ)
+place_opened_by b [] = None
+place_opened_by b (w ∷ ws) =
+    if bytes_eq w (codes "open") then place_behind_open b ws else None
 
 -- the same of a line
-abbrev pub place_opened : Bookmarks → List ℕ → Option ℕ
+abbrev pub place_opened : Bookmarks → List ℕ → Option (Option ℕ)
 place_opened b l = place_opened_by b (words_of_line l)

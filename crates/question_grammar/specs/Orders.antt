@@ -5,6 +5,7 @@ use Rattle.std.specs.Option.{option_or}
 use Rattle.std.specs.Str.{bytes_eq}
 use Rattle.heap_world.specs.State.{HeapState}
 use Rattle.session_grammar.specs.Grammar.{at_end, number_of_word, words_of_line}
+use Rattle.session_grammar.specs.Reads.{DefinesClass}
 use Rattle.question_grammar.specs.declared.order.Order.{Order}
 use Rattle.question_grammar.specs.declared.order.Order.TheVariants.{Act, Collect, Forward, ForwardTo, RewindTo}
 use Rattle.question_grammar.specs.Bookmarks.{Bookmarks}
@@ -41,3 +42,13 @@ abbrev pub order_in : Bookmarks → HeapState → List ℕ → Option Order
 order_in b state l =
     option_or (order_of_words b (words_of_line l))
     (option_map Act (event_of_words state (words_of_line l)))
+
+-- to read this order takes memory: it defines a class
+abbrev pub IsDefinition : Order → Type 0
+IsDefinition (Act e) = DefinesClass e
+IsDefinition _ = ⊥
+
+-- to read this order, if there is one, takes memory
+abbrev pub MayTakeMemory : Option Order → Type 0
+MayTakeMemory None = ⊥
+MayTakeMemory (Some order) = IsDefinition order

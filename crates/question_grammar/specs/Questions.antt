@@ -49,11 +49,11 @@ abbrev pub two_ats : Bookmarks → List (List ℕ) → Option (At × At)
 two_ats b ws =
     option_and_then (λ a. option_and_then (λ c. at_end (a.0, c.0) c.1) (next_at b a.1)) (next_at b ws)
 
--- the same; without the second it is the current one
-abbrev pub at_and_optional : Bookmarks → List (List ℕ) → Option (At × At)
-at_and_optional b [] = None
-at_and_optional b (w ∷ []) = option_map (λ at. (at, Current)) (at_of_word b w)
-at_and_optional b (w ∷ v ∷ ws) = two_ats b (w ∷ v ∷ ws)
+-- the same; without the second it is the current one, and without the first that of the session
+abbrev pub optional_ats : Bookmarks → List (List ℕ) → Option (At × At)
+optional_ats b [] = Some (default_at b, Current)
+optional_ats b (w ∷ []) = option_map (λ at. (at, Current)) (at_of_word b w)
+optional_ats b (w ∷ v ∷ ws) = two_ats b (w ∷ v ∷ ws)
 
 -- the id that the first word is, and the other words
 abbrev pub next_id : List (List ℕ) → Option (ℕ × List (List ℕ))
@@ -311,12 +311,12 @@ question_rules b =
     (codes "histogram", λ ws. option_map (λ at. Histogram at) (optional_at b ws))
     ∷ (codes "garbage", λ ws. option_map (λ at. Garbage at) (optional_at b ws))
     ∷ (codes "registers", λ ws. option_map (λ at. Registers at) (optional_at b ws))
-    ∷ (codes "growth", λ ws. option_map (λ a. Growth a.0 a.1) (at_and_optional b ws))
+    ∷ (codes "growth", λ ws. option_map (λ a. Growth a.0 a.1) (optional_ats b ws))
     ∷ (codes "classes", λ ws. option_map (λ at. Classes at) (optional_at b ws))
     ∷ (codes "objects", λ ws. option_map (λ a. Objects a.0 a.1) (at_and_wanted b ws))
     ∷ (codes "values", λ ws. option_map (λ a. Values a.0 a.1.0 a.1.1) (at_and_slot b ws))
-    ∷ (codes "kept", λ ws. option_map (λ a. Kept a.0 a.1) (at_and_optional b ws))
-    ∷ (codes "diff", λ ws. option_map (λ a. Diff a.0 a.1) (at_and_optional b ws))
+    ∷ (codes "kept", λ ws. option_map (λ a. Kept a.0 a.1) (optional_ats b ws))
+    ∷ (codes "diff", λ ws. option_map (λ a. Diff a.0 a.1) (optional_ats b ws))
     ∷ (codes "referrers", λ ws. option_map (λ a. Referrers a.0 a.1) (optional_at_and_id b ws))
     ∷ (codes "path", λ ws. option_map (λ a. Path a.0 a.1) (optional_at_and_id b ws))
     ∷ (codes "paths", λ ws. option_map (λ a. Paths a.0 a.1.0 a.1.1) (at_and_paths b ws))

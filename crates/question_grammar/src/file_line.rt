@@ -1,7 +1,7 @@
 //! Lines that write files.
 ghost use Rattle.std.specs.Prelude.{◌≡◌, option_map};
 ghost use Rattle.session_grammar.specs.Grammar.{words_of_line};
-ghost use Rattle.question_grammar.specs.FileLines.{dump_and_path, file_by, file_of, picture_and_path};
+ghost use Rattle.question_grammar.specs.FileLines.{at_and_path, file_by, file_of};
 
 use crate::bookmarks::Bookmarks;
 use crate::question::at_of;
@@ -13,8 +13,8 @@ use session_grammar::words::{Words, is_word};
 pub enum FileContent {
     /// The dump of a state.
     DumpOf(At),
-    /// A picture of the regions of the current state.
-    Picture,
+    /// A picture of the regions of a state.
+    PictureOf(At),
 }
 
 /// A line that writes a file.
@@ -26,7 +26,14 @@ pub struct FileLine<'a> {
     pub path: &'a [u8],
 }
 
-/// Returns what a line asks to be written, `write [AT] PATH` or `draw PATH`, or None if it is neither. If `write` names no state, it
+// A state, and the path of a file.
+#[derive(Clone, Copy)]
+struct StatePath<'a> {
+    at: At,
+    path: &'a [u8],
+}
+
+/// Returns what a line asks to be written, `write [AT] PATH` or `draw [AT] PATH`, or None if it is neither. If it names no state, it
 /// is that of the session. Takes no memory.
 pub fn file_in<'a>(bookmarks: &Bookmarks, line: &'a [u8]) -> Option<FileLine<'a>>
     ensures { option_map (λ f. (f.content, f.path.now)) result ≡ file_of bookmarks.now line.now }
@@ -43,43 +50,31 @@ fn file_by<'a>(bookmarks: &Bookmarks, keyword: &[u8], words: Words<'a>) -> Optio
         ≡ file_by bookmarks.now keyword.now (words_of_line words.entry) }
 {
     if is_word(keyword, b"write") {
-        dump_and_path(bookmarks, words)
+        let StatePath { at, path } = at_and_path(bookmarks, words)?;
+        let content = FileContent::DumpOf(at);
+        Some(FileLine { content, path })
     } else if is_word(keyword, b"draw") {
-        picture_and_path(words)
+        let StatePath { at, path } = at_and_path(bookmarks, words)?;
+        let content = FileContent::PictureOf(at);
+        Some(FileLine { content, path })
     } else {
         None
     }
 }
 
-// Reads the words behind `write`: a state, if it is named, and the path.
-fn dump_and_path<'a>(bookmarks: &Bookmarks, mut words: Words<'a>) -> Option<FileLine<'a>>
-    ensures { option_map (λ f. (f.content, f.path.now)) result
-        ≡ dump_and_path bookmarks.now (words_of_line words.entry) }
+// Reads the words behind a keyword: a state, if it is named, and the path.
+fn at_and_path<'a>(bookmarks: &Bookmarks, mut words: Words<'a>) -> Option<StatePath<'a>>
+    ensures { option_map (λ f. (f.at, f.path.now)) result
+        ≡ at_and_path bookmarks.now (words_of_line words.entry) }
 {
     let word = words.next_word()?;
     let Some(path) = words.next_word() else {
-        let content = FileContent::DumpOf(bookmarks.default_at());
-        return Some(FileLine {
-            content,
-            path: word,
-        });
+        let at = bookmarks.default_at();
+        return Some(StatePath { at, path: word });
     };
     if words.front().is_some() {
         return None;
     }
-    let content = FileContent::DumpOf(at_of(bookmarks, word)?);
-    Some(FileLine { content, path })
-}
-
-// Reads the word behind `draw`, the path.
-fn picture_and_path<'a>(mut words: Words<'a>) -> Option<FileLine<'a>>
-    ensures { option_map (λ f. (f.content, f.path.now)) result
-        ≡ picture_and_path (words_of_line words.entry) }
-{
-    let path = words.next_word()?;
-    if words.front().is_some() {
-        return None;
-    }
-    let content = FileContent::Picture;
-    Some(FileLine { content, path })
+    let at = at_of(bookmarks, word)?;
+    Some(StatePath { at, path })
 }

@@ -4,6 +4,7 @@
 
 mod bookmarks;
 mod chain;
+mod class_event;
 mod event_name;
 mod file_line;
 mod name_words;

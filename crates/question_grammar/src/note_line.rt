@@ -1,7 +1,7 @@
-//! Lines that a session notes, which ask nothing of its heap; and the line `open @WORD`.
+//! Lines that a session notes, which ask nothing of its heap; and the lines `open` and `open @WORD`.
 ghost use Rattle.std.specs.Prelude.{◌≡◌, option_map};
 ghost use Rattle.session_grammar.specs.Grammar.{words_of_line};
-ghost use Rattle.question_grammar.specs.NoteLines.{name_of_word, name_set, place_by_name, place_opened, place_set, word_behind};
+ghost use Rattle.question_grammar.specs.NoteLines.{name_of_word, name_set, place_behind_open, place_by_name, place_opened, place_set, word_behind};
 
 use crate::bookmarks::{Bookmarks, is_place_name};
 use crate::question::place_of_word;
@@ -53,13 +53,32 @@ fn name_of_word(word: &[u8]) -> Option<&[u8]>
     }
 }
 
-/// Returns the place on whose state a line opens a pin: `open @WORD`, by the name of a place. Returns None if the line isn't this
-/// one, as `open @P`, which the grammar of sessions knows. Takes no memory.
-pub fn place_opened(bookmarks: &Bookmarks, line: &[u8]) -> Option<u64>
+/// Returns the place on whose state a line opens a pin, or None for the current one: that of `at` for `open`, and for `open @WORD`
+/// the place with this name. Returns None if the line is neither, as `open AT`, which the grammar of sessions knows. Takes no
+/// memory.
+pub fn place_opened(bookmarks: &Bookmarks, line: &[u8]) -> Option<Option<u64>>
     ensures { result ≡ place_opened bookmarks.now line.now }
 {
-    let word = word_behind(b"open", Words::new(line))?;
-    place_by_name(bookmarks, word)
+    let mut words = Words::new(line);
+    let word = words.next_word()?;
+    if !is_word(word, b"open") {
+        return None;
+    }
+    place_behind_open(bookmarks, words)
+}
+
+// Returns the place that the words behind `open` name by a name, or that of `at` if there is none.
+fn place_behind_open(bookmarks: &Bookmarks, mut words: Words) -> Option<Option<u64>>
+    ensures { result ≡ place_behind_open bookmarks.now (words_of_line words.entry) }
+{
+    let Some(word) = words.next_word() else {
+        return Some(bookmarks.at());
+    };
+    if words.front().is_some() {
+        return None;
+    }
+    let place = place_by_name(bookmarks, word)?;
+    Some(Some(place))
 }
 
 // Returns the place that a word names as `@WORD`, if what follows the sign is no number.

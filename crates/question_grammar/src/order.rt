@@ -1,9 +1,10 @@
 //! Lines that change the heap, though they are none of the grammar of sessions.
-ghost use Rattle.std.specs.Prelude.{◌≡◌, ◌∷◌, []};
+ghost use Rattle.std.specs.Prelude.{◌≡◌, ◌∷◌, [], MatchResult, option_map};
 ghost use Rattle.session_grammar.specs.Grammar.{words_of_line};
-ghost use Rattle.question_grammar.specs.declared.order.Order.TheVariants.{ForwardTo};
+ghost use Rattle.question_grammar.specs.declared.order.Order.TheVariants.{Act, ForwardTo};
 ghost use Rattle.question_grammar.specs.Bookmarks.{no_bookmarks};
-ghost use Rattle.question_grammar.specs.Orders.{order_in, order_of_two, order_of_words, to_place, way_back, way_on};
+ghost use Rattle.question_grammar.specs.EventNames.{event_of_words};
+ghost use Rattle.question_grammar.specs.Orders.{MayTakeMemory, order_in, order_of_two, order_of_words, to_place, way_back, way_on};
 
 use crate::bookmarks::Bookmarks;
 use crate::event_name::event_in;
@@ -13,6 +14,7 @@ use heap_world::World;
 use session_grammar::command::at_end;
 use session_grammar::number::number_of;
 use session_grammar::words::{Words, is_word};
+use std::alloc::{AllocError, Global};
 
 /// What such a line asks to be done.
 #[derive(Drop)]
@@ -30,13 +32,19 @@ pub enum Order {
 }
 
 /// Returns what a line asks to be done, or None if it is none of these lines. Names in it are those of the session's places, and of
-/// this state's classes and fields. Takes no memory.
-pub fn order_in(bookmarks: &Bookmarks, world: &World, line: &[u8]) -> Option<Order>
-    ensures { result ≡ order_in bookmarks.now world.now line.now }
+/// this state's classes and fields. Fails if an allocation for a class fails.
+pub fn order_in(
+    alloc: Global,
+    bookmarks: &Bookmarks,
+    world: &World,
+    line: &[u8],
+) -> Result<Option<Order>, AllocError>
+    ensures { MatchResult result (λ order. order ≡ order_in bookmarks.now world.now line.now)
+        (λ _. MayTakeMemory (order_in bookmarks.now world.now line.now)) }
 {
     match order_of_words(bookmarks, Words::new(line)) {
-        Some(order) => Some(order),
-        None => Some(Order::Act(event_in(world, line)?)),
+        Some(order) => Ok(Some(order)),
+        None => act_in(alloc, world, line),
     }
 }
 
@@ -102,4 +110,16 @@ fn way_on_to(bookmarks: &Bookmarks, word: &[u8]) -> Option<Order>
 {
     let place = place_of_word(bookmarks, word)??;
     Some(Order::ForwardTo(place))
+}
+
+// Returns the event that a line asks for by a name, as an order. Fails if an allocation for a class fails.
+fn act_in(alloc: Global, world: &World, line: &[u8]) -> Result<Option<Order>, AllocError>
+    ensures { MatchResult result
+        (λ order. order ≡ option_map Act (event_of_words world.now (words_of_line line.now)))
+        (λ _. MayTakeMemory (option_map Act (event_of_words world.now (words_of_line line.now)))) }
+{
+    match event_in(alloc, world, line)? {
+        Some(event) => Ok(Some(Order::Act(event))),
+        None => Ok(None),
+    }
 }

@@ -2,7 +2,7 @@
 ghost use Rattle.std.specs.Prelude.{◌≡◌, drop};
 ghost use Rattle.session_grammar.specs.Grammar.{words_of_line};
 ghost use Rattle.question_words.specs.Ids.{id_of_word};
-ghost use Rattle.question_grammar.specs.Questions.{at_and_optional, at_and_paths, at_and_slot, at_and_wanted, at_of_word, at_or_number, class_and_slot, dominated_by, dominators_by, dominators_of, holding, holding_and_span, id_and_number, id_and_paths, numbers_and_span, one_id, optional_at, optional_at_and_id, past_rules, path_count, place_and_id, place_and_number, place_and_slot, place_behind, place_of, place_of_word, question_by, question_of, question_rules, show_by, show_of, slot_and_place, slots_named, span_of, value_of_word, wanted_of, when_of};
+ghost use Rattle.question_grammar.specs.Questions.{at_and_paths, at_and_slot, at_and_wanted, at_of_word, at_or_number, class_and_slot, dominated_by, dominators_by, dominators_of, holding, holding_and_span, id_and_number, id_and_paths, numbers_and_span, one_id, optional_at, optional_at_and_id, optional_ats, past_rules, path_count, place_and_id, place_and_number, place_and_slot, place_behind, place_of, place_of_word, question_by, question_of, question_rules, show_by, show_of, slot_and_place, slots_named, span_of, value_of_word, wanted_of, when_of};
 
 use crate::bookmarks::Bookmarks;
 use heap_questions::Wanted;
@@ -122,7 +122,7 @@ pub fn question_of(bookmarks: &Bookmarks, line: &[u8]) -> Option<Question>
         return Some(Question::Registers(optional_at(bookmarks, words)?));
     }
     if is_word(keyword, b"growth") {
-        let (older, newer) = at_and_optional(bookmarks, words)?;
+        let (older, newer) = optional_ats(bookmarks, words)?;
         return Some(Question::Growth { older, newer });
     }
     if is_word(keyword, b"classes") {
@@ -141,11 +141,14 @@ fn optional_at(bookmarks: &Bookmarks, mut words: Words) -> Option<At>
     at_end(at_of(bookmarks, word)?, words)
 }
 
-// Returns the two states that the words name. If they name only one, the second is the current one.
-fn at_and_optional(bookmarks: &Bookmarks, mut words: Words) -> Option<(At, At)>
-    ensures { result ≡ at_and_optional bookmarks.now (words_of_line words.entry) }
+// Returns the two states that the words name. The second is the current one if only one is named, and the first that of the session
+// if none is.
+fn optional_ats(bookmarks: &Bookmarks, mut words: Words) -> Option<(At, At)>
+    ensures { result ≡ optional_ats bookmarks.now (words_of_line words.entry) }
 {
-    let word = words.next_word()?;
+    let Some(word) = words.next_word() else {
+        return Some((bookmarks.default_at(), At::Current));
+    };
     let Some(second) = words.next_word() else {
         return Some((at_of(bookmarks, word)?, At::Current));
     };
@@ -168,11 +171,11 @@ fn later_question(bookmarks: &Bookmarks, keyword: &[u8], words: Words) -> Option
         return Some(Question::Values { at, class, slot });
     }
     if is_word(keyword, b"kept") {
-        let (older, newer) = at_and_optional(bookmarks, words)?;
+        let (older, newer) = optional_ats(bookmarks, words)?;
         return Some(Question::Kept { older, newer });
     }
     if is_word(keyword, b"diff") {
-        let (older, newer) = at_and_optional(bookmarks, words)?;
+        let (older, newer) = optional_ats(bookmarks, words)?;
         return Some(Question::Diff { older, newer });
     }
     if is_word(keyword, b"referrers") {

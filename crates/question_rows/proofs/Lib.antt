@@ -14,6 +14,7 @@ pub mod SlotNames
 pub mod TreeObjects
 pub mod TreeRoom
 pub mod LivedRows
+pub mod ToldSteps
 pub mod PinRows
 pub mod UsedRegions
 pub mod CountedRegions

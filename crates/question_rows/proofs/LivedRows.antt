@@ -5,6 +5,7 @@ use Rattle.std.proofs.lemmas.List.Elements.{All-cons, All-nil}
 use Rattle.heap_class.specs.Classes.{Class}
 use Rattle.heap_class.specs.declared.ObjKind.{ObjKind}
 use Rattle.heap_class.specs.declared.ObjKind.TheVariants.{Array, Instance, Prim}
+use Rattle.heap_class.specs.declared.ObjRef.{ObjRef}
 use Rattle.heap_region.specs.Regions.{Object, object_at}
 use Rattle.heap_region.proofs.ChangedLookups.{object_at_ref}
 use Rattle.heap_world.specs.State.{HeapState}
@@ -45,6 +46,13 @@ still_there few many (Instance k) l h = omega (arith, l, h)
 still_there few many (Array k) l h = omega (arith, l, h)
 still_there few many (Prim kind) l h = tt
 
+-- the class of an object of a retained state
+pub kind_there : (keep : ℕ) (t : Trail) (n : ℕ) (at : ObjRef) (o : Object) → IsTrail keep t → n ≤ retained t → object_at (state_ago n t).regions at ≡ Some o → IsClassThere t.current.classes o.kind
+kind_there keep t n at o trail within here =
+    let w = state_ago n t in
+    let known : IsKnown w.classes o.kind (length o.words) = kind_of_slots_is_known w.classes o.kind (length o.words) ((legal_ago keep t n trail within).objects at o here).kind in
+    still_there w.classes t.current.classes o.kind (classes_grow keep t n trail within) (there w.classes o.kind (length o.words) known)
+
 -- ---- lives
 
 life_there : (keep : ℕ) (t : Trail) (x n : ℕ) (l : Life) → IsTrail keep t → n ≤ retained t → IsLife t x n l → IsClassThere t.current.classes l.kind
@@ -56,8 +64,7 @@ life_there keep t x n l trail few i =
     let here : IsSome (object_at w.regions at) = subst (λ (y : Option Object). IsSome y) (object_at_ref w.regions x at i.told.named) (i.stayed.each m (omega arith) (omega (arith, i.stayed.within))) in
     let o = object_here w at here in
     let kind : l.kind ≡ o.0.kind = subst (λ (y : Option Object). IfSome y (λ o. l.kind ≡ o.kind)) o.1 i.told.kind in
-    let known : IsKnown w.classes o.0.kind (length o.0.words) = kind_of_slots_is_known w.classes o.0.kind (length o.0.words) ((legal_ago keep t m trail within).objects at o.0 o.1).kind in
-    still_there w.classes t.current.classes l.kind (classes_grow keep t m trail within) (subst (IsClassThere w.classes) (sym kind) (there w.classes o.0.kind (length o.0.words) known))
+    subst (IsClassThere t.current.classes) (sym kind) (kind_there keep t m at o.0 trail within o.1)
 
 pub lives_there : (keep : ℕ) (t : Trail) (x n : ℕ) (lives : List Life) → IsTrail keep t → n ≤ retained t + 1 → AreLives t x n lives → All (λ l. IsClassThere t.current.classes l.kind) lives
 lives_there keep t x zero lives trail few e = subst (All (λ l. IsClassThere t.current.classes l.kind)) (sym e) (All-nil (λ (l : Life). IsClassThere t.current.classes l.kind))

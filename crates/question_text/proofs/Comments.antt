@@ -16,7 +16,7 @@ use Rattle.question_grammar.specs.declared.question.Question.{Question}
 use Rattle.question_text.specs.Answers.{IsAnswerAlong, IsAnswerOf}
 use Rattle.question_grammar.specs.Bookmarks.{Bookmarks}
 use Rattle.question_grammar.specs.Chains.{chain_of, chain_of_words}
-use Rattle.question_grammar.specs.EventNames.{event_by_name, event_of_words}
+use Rattle.question_grammar.specs.EventNames.{event_by_name, event_of_words, object_event_by_name}
 use Rattle.question_grammar.specs.NoteLines.{name_set_by, place_opened_by, place_set_by, word_behind}
 use Rattle.question_grammar.specs.Orders.{order_in, order_of_two, order_of_words}
 use Rattle.question_text.specs.Comments.{is_comment, is_comment_words, unasked_text}
@@ -45,14 +45,14 @@ names_nothing bm state v ws = refl
 
 -- ---- the grammar of sessions
 
-by_words : (ws : List (List ℕ)) → is_comment_words ws ≡ true → command_of_words ws ≡ Bad
-by_words [] e = absurd (cc e)
-by_words ([] ∷ ws) e = absurd (cc e)
-by_words ((b ∷ v) ∷ ws) e =
+comment_words_are_bad : (ws : List (List ℕ)) → is_comment_words ws ≡ true → command_of_words ws ≡ Bad
+comment_words_are_bad [] e = absurd (cc e)
+comment_words_are_bad ([] ∷ ws) e = absurd (cc e)
+comment_words_are_bad ((b ∷ v) ∷ ws) e =
     subst (λ (x : ℕ). command_of_words ((x ∷ v) ∷ ws) ≡ Bad) (sym (first_byte b v e)) (let none = no_rule v ws in rw none refl)
 
 pub comments_no_command : (l : List ℕ) → is_comment l ≡ true → command_of_text l ≡ Bad
-comments_no_command l e = bad_words l (by_words (words_of_line l) e)
+comments_no_command l e = bad_words l (comment_words_are_bad (words_of_line l) e)
 
 -- ---- questions, orders and bookmarks
 
@@ -72,7 +72,7 @@ comment_is_no_order bm v [] = refl
 comment_is_no_order bm v (w ∷ ws) = refl
 
 comment_is_no_event : (state : HeapState) (v : List ℕ) (ws : List (List ℕ)) → event_of_words state ((35 ∷ v) ∷ ws) ≡ None
-unfolding event_by_name
+unfolding event_by_name object_event_by_name
 comment_is_no_event state v ws = refl
 
 orders_none : (bm : Bookmarks) (state : HeapState) (l : List ℕ) → is_comment l ≡ true → order_in bm state l ≡ None
@@ -87,10 +87,7 @@ chains_none : (bm : Bookmarks) (l : List ℕ) → is_comment l ≡ true → chai
 chains_none bm l e = of_comment (chain_of_words bm) (comment_is_no_chain bm) (words_of_line l) e
 
 opens_none : (bm : Bookmarks) (v : List ℕ) (ws : List (List ℕ)) → place_opened_by bm ((35 ∷ v) ∷ ws) ≡ None
-unfolding word_behind
-opens_none bm v [] = refl
-opens_none bm v (w ∷ []) = refl
-opens_none bm v (w ∷ u ∷ ws) = refl
+opens_none bm v ws = refl
 
 places_none : (bm : Bookmarks) (v : List ℕ) (ws : List (List ℕ)) → place_set_by bm ((35 ∷ v) ∷ ws) ≡ None
 unfolding word_behind

@@ -10,7 +10,7 @@ line_same : (order : Option Order) (l : List ℕ) (c : Asking) (text : List ℕ)
 line_same (Some order) l c text d h = h.1
 line_same None l c text d h = ap (λ (x : Asking). x.local.first_pin) h.1
 
-opens_same : (opened : Option ℕ) (l : List ℕ) (c : Asking) (text : List ℕ) (d : Asking) → OpensOrAnswers opened l c text d → d.local.first_pin ≡ c.local.first_pin
+opens_same : (opened : Option (Option ℕ)) (l : List ℕ) (c : Asking) (text : List ℕ) (d : Asking) → OpensOrAnswers opened l c text d → d.local.first_pin ≡ c.local.first_pin
 opens_same (Some place) l c text d h = h.1.1
 opens_same None l c text d h = line_same (order_in c.bookmarks c.local.machine.trail.current l) l c text d h
 

@@ -77,7 +77,8 @@ order_keeps Collect m n r s text h l = subst (λ (x : Redo). IsRedoOf n x) (sym 
 order_keeps (RewindTo place) m n r s text h l = rewinds_keep m n r s (steps_ago (Some place) m.trail) text h l
 order_keeps (Forward count) m n r s text h l = forward_keeps count m n r s text h l
 order_keeps (ForwardTo place) m n r s text h l = forward_to_keeps (steps_on place m.trail r) m n r s text h l
-order_keeps (Act e) m n r s text h l = acts_keep m n r s (Step e) text h l
+order_keeps (Act e) m n r s text (inl h) l = acts_keep m n r s (Step e) text h l
+order_keeps (Act e) m n r s text (inr h) l = nothing_keeps m n r s h.1.1 h.1.2 l
 
 -- ---- lines
 
@@ -93,8 +94,8 @@ unknown_keeps : (order : Option Order) (l text : List ℕ) (c d : Asking) → An
 unknown_keeps (Some order) l text c d h k = order_keeps order c.local.machine d.local.machine c.redo d.redo text h.0 k
 unknown_keeps None l text c d h k = subst Keeps (sym h.1) k
 
-opened_keeps : (opened : Option ℕ) (l text : List ℕ) (c d : Asking) → OpensOrAnswers opened l c text d → Keeps c → Keeps d
-opened_keeps (Some place) l text c d h k = act_keeps c (OpenPin (Some place)) h.0 d h.1 k
+opened_keeps : (opened : Option (Option ℕ)) (l text : List ℕ) (c d : Asking) → OpensOrAnswers opened l c text d → Keeps c → Keeps d
+opened_keeps (Some place) l text c d h k = act_keeps c (OpenPin place) h.0 d h.1 k
 opened_keeps None l text c d h k = unknown_keeps (order_in c.bookmarks c.local.machine.trail.current l) l text c d h k
 
 pub answer_keeps_redo : (l text : List ℕ) (c d : Asking) → AskingAnswers l c text d → Keeps c → Keeps d
@@ -161,7 +162,7 @@ pub line_takes_back : (n place : ℕ) (l text : List ℕ) (c d e : Asking) → K
     → IsBackAt c.local.machine c.redo text e.local.machine e.redo ⊎ (text ≡ refused_text NoMemory)
 line_takes_back n place l text c d e k few acts is says =
     let state = d.local.machine.trail.current in
-    let line : AnswersLine (order_in d.bookmarks state l) l d text e = subst (λ (o : Option ℕ). OpensOrAnswers o l d text e) (order_opens_none d.bookmarks state l (Forward n) is) says.0 in
+    let line : AnswersLine (order_in d.bookmarks state l) l d text e = subst (λ (o : Option (Option ℕ)). OpensOrAnswers o l d text e) (order_opens_none d.bookmarks state l (Forward n) is) says.0 in
     let answers : AnswersLine (Some (Forward n)) l d text e = subst (λ (o : Option Order). AnswersLine o l d text e) is line in
     forward_takes_back n place c.local.machine d.local.machine e.local.machine c.redo d.redo e.redo text k few acts.0 acts.2 answers.0
 

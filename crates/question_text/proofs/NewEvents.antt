@@ -1,24 +1,30 @@
 -- Lines of events that name a class or a field are none of the grammar of sessions, and ask nothing.
-use Rattle.std.proofs.Common.{◌≡◌, ap, ℕ, Bool, true, false, cond, List, [], ◌∷◌, Some, None, refl, sym, subst}
+use Rattle.std.proofs.Common.{◌≡◌, ◌∙◌, ap, ℕ, Bool, true, false, cond, List, [], ◌∷◌, Some, None, inr, refl, sym, subst}
 use Rattle.std.specs.Prelude.{Option, codes, if◌then◌else◌, is_some, option_and_then, option_map}
 use Rattle.std.specs.Option.{option_or}
 use Rattle.std.specs.Str.{bytes_eq}
 use Rattle.std.proofs.lemmas.Slice.Eq.{bytes_eq-Decides}
 use Rattle.heap_class.specs.Classes.{Class}
+use Rattle.heap_class.specs.declared.Field.{Field}
+use Rattle.heap_class.specs.declared.Refusal.TheVariants.{NoMemory}
 use Rattle.heap_step.specs.declared.Event.{Event}
 use Rattle.heap_step.specs.declared.Event.TheVariants.{New, NewArray, Load, Store, Put}
 use Rattle.heap_trail.specs.declared.Action.TheVariants.{Step}
 use Rattle.heap_world.specs.State.{HeapState}
 use Rattle.session_grammar.specs.declared.command.Command.TheVariants.{Ask, Bad}
-use Rattle.session_grammar.specs.Grammar.{access_rules, all_rules, at_end, by_rule, class_rules, command_of_text, command_of_words, four_numbers, making_rules, marking_rules, next_number, number_of_word, session_rules, three_numbers, words_of_line}
+use Rattle.session_grammar.specs.Grammar.{access_rules, all_rules, at_end, by_rule, class_line, class_rules, command_of_text, command_of_words, fields_of_words, four_numbers, is_plain, making_rules, marking_rules, next_number, number_of_word, number_or_dash, session_rules, three_numbers, words_of_line}
+use Rattle.session_grammar.specs.Reads.{next_name, plain_fields}
 use Rattle.question_grammar.specs.Bookmarks.{Bookmarks}
-use Rattle.question_grammar.specs.EventNames.{array_by_name, event_by_name, event_of_words, load_by_name, new_by_name, next_class, next_slot, slot_in_register, unless_number, write_by_name}
+use Rattle.question_grammar.specs.EventNames.{array_by_name, class_by_name, event_by_name, event_of_words, load_by_name, new_by_name, next_class, next_slot, next_super, object_event_by_name, slot_in_register, unless_number, write_by_name}
 use Rattle.question_grammar.specs.NameWords.{class_named}
-use Rattle.question_grammar.specs.Orders.{order_in, order_of_words}
+use Rattle.question_grammar.specs.Orders.{MayTakeMemory, order_in, order_of_words}
 use Rattle.question_grammar.specs.Questions.{past_rules, question_of, question_of_words, question_rules}
 use Rattle.question_grammar.specs.declared.order.Order.{Order}
-use Rattle.question_grammar.specs.declared.order.Order.TheVariants.{Act}
+use Rattle.question_grammar.specs.declared.order.Order.TheVariants.{Act, Collect, Forward, ForwardTo, RewindTo}
+use Rattle.question_words.specs.Moments.{refused_text}
+use Rattle.question_text.specs.declared.asking.Asking.{Asking}
 use Rattle.question_text.specs.Help.{help_of, help_of_words}
+use Rattle.question_text.specs.Sessions.{AnswersLine}
 use Rattle.question_text.proofs.NewWords.{AsksNothing, bad_words, by_order, order_asks_nothing, word_asks_nothing}
 
 -- ---- names are no numbers
@@ -45,6 +51,15 @@ class_is_no_number classes (w ∷ ws) r e = read_no_number w ws (class_named cla
 slot_is_no_number : (state : HeapState) (m q : ℕ) (ws : List (List ℕ)) (r : Read) → next_slot state m q ws ≡ Some r → next_number ws ≡ None
 slot_is_no_number state m q [] r e = absurd (cc e)
 slot_is_no_number state m q (w ∷ ws) r e = read_no_number w ws (slot_in_register state m q w) r (unless_number w (slot_in_register state m q w)) refl e
+
+-- a super by its name is no number, and no `-`
+super_by : (dash : Bool) (classes : List Class) (w : List ℕ) (ws : List (List ℕ)) (r : Read) → bytes_eq w (codes "-") ≡ dash → cond dash None (next_class classes (w ∷ ws)) ≡ Some r → number_or_dash w ≡ None
+super_by true classes w ws r h e = absurd (cc e)
+super_by false classes w ws r h e = go (number_of_word w) refl
+  where
+    go : (number : Option ℕ) → number_of_word w ≡ number → number_or_dash w ≡ None
+    go None none = rw h (rw none refl)
+    go (Some n) is = let read : next_number (w ∷ ws) ≡ None = class_is_no_number classes (w ∷ ws) r e in let clash : Some (n, ws) ≡ None = sym (ap (λ (o : Option ℕ). option_map (λ (x : ℕ). (x, ws)) o) is) ∙ read in absurd (cc clash)
 
 -- ---- what follows
 
@@ -114,7 +129,29 @@ write_by_name_alone state ws x is =
     instead (next_slot state m.0 r.0 r.1) (next_number r.1) (λ (s : Read). option_and_then (λ (n : Read). at_end (m.0, r.0, s.0, n.0) n.1) (next_number s.1))
     (λ (c : Read). option_and_then (λ (d : Read). at_end (m.0, r.0, c.0, d.0) d.1) (next_number c.1)) x (slot_is_no_number state m.0 r.0 r.1) is) is) is
 
+class_line_of : (sup : Option (Option ℕ)) (name : List ℕ) (fields : List (List ℕ)) → sup ≡ None → option_and_then (λ (s : Option ℕ). option_map (λ (fs : List Field). Ask (Step (Event.Class name s fs))) (fields_of_words fields)) sup ≡ None
+class_line_of None name fields e = refl
+class_line_of (Some s) name fields e = absurd (cc e)
+
+-- the words behind the name of a class whose super is named
+named_super : (classes : List Class) (name : List ℕ) (ws : List (List ℕ)) (e : Event) (sup : Option Read) → next_super classes ws ≡ sup → option_and_then (λ (s : Read). option_map (λ (fs : List Field). Event.Class name (Some s.0) fs) (plain_fields s.1)) sup ≡ Some e → class_line (name ∷ ws) ≡ None
+named_super classes name ws e None is h = absurd (cc h)
+named_super classes name [] e (Some s) is h = refl
+named_super classes name (w ∷ ws) e (Some s) is h = class_line_of (number_or_dash w) name ws (super_by (bytes_eq w (codes "-")) classes w ws s refl is)
+
+class_by_name_alone : (classes : List Class) (ws : List (List ℕ)) (e : Event) → class_by_name classes ws ≡ Some e → class_line ws ≡ None
+class_by_name_alone classes [] e is = refl
+class_by_name_alone classes (name ∷ ws) e is = go (is_plain name) is
+  where
+    go : (plain : Bool) → option_and_then (λ (n : List ℕ × List (List ℕ)). option_and_then (λ (s : Read). option_map (λ (fs : List Field). Event.Class n.0 (Some s.0) fs) (plain_fields s.1)) (next_super classes n.1)) (cond plain (Some (name, ws)) None) ≡ Some e → class_line (name ∷ ws) ≡ None
+    go true is = named_super classes name ws e (next_super classes ws) refl is
+    go false is = absurd (cc is)
+
 -- ---- so they are no lines of the grammar
+
+no_class_line : (ws : List (List ℕ)) → class_line ws ≡ None → by_rule all_rules (codes "class") ws ≡ None
+unfolding by_rule class_rules making_rules access_rules marking_rules session_rules
+no_class_line ws e = e
 
 no_new : (ws : List (List ℕ)) → three_numbers ws ≡ None → by_rule all_rules (codes "new") ws ≡ None
 unfolding by_rule class_rules making_rules access_rules marking_rules session_rules
@@ -135,6 +172,10 @@ no_store ws e = ap (λ (o : Option (ℕ × ℕ × ℕ × ℕ)). option_map (λ (
 no_put : (ws : List (List ℕ)) → four_numbers ws ≡ None → by_rule all_rules (codes "put") ws ≡ None
 unfolding by_rule class_rules making_rules access_rules marking_rules session_rules
 no_put ws e = ap (λ (o : Option (ℕ × ℕ × ℕ × ℕ)). option_map (λ (n : ℕ × ℕ × ℕ × ℕ). Ask (Step (Put n.0 n.1 n.2 n.3))) o) e
+
+class_asks_nothing : (bm : Bookmarks) (ws : List (List ℕ)) → AsksNothing bm (codes "class") ws
+unfolding question_of_words question_rules past_rules
+class_asks_nothing bm ws = record { question = refl; help = refl }
 
 new_asks_nothing : (bm : Bookmarks) (ws : List (List ℕ)) → AsksNothing bm (codes "new") ws
 unfolding question_of_words question_rules past_rules
@@ -167,9 +208,9 @@ alone_by w key ws word none asks = record {
   asks = λ bm. word_asks_nothing bm w key ws word (asks bm);
 }
 
-event_alone : (state : HeapState) (w : List ℕ) (ws : List (List ℕ)) (e : Event) → event_by_name state w ws ≡ Some e → IsEventAlone w ws
-unfolding event_by_name
-event_alone state w ws e is = go (bytes_eq w (codes "new")) (bytes_eq w (codes "newarray")) (bytes_eq w (codes "load")) (bytes_eq w (codes "store")) (bytes_eq w (codes "put")) refl refl refl refl refl is
+object_event_alone : (state : HeapState) (w : List ℕ) (ws : List (List ℕ)) (e : Event) → object_event_by_name state w ws ≡ Some e → IsEventAlone w ws
+unfolding object_event_by_name
+object_event_alone state w ws e is = go (bytes_eq w (codes "new")) (bytes_eq w (codes "newarray")) (bytes_eq w (codes "load")) (bytes_eq w (codes "store")) (bytes_eq w (codes "put")) refl refl refl refl refl is
   where
     go : (makes lists reads stores puts : Bool) → bytes_eq w (codes "new") ≡ makes → bytes_eq w (codes "newarray") ≡ lists → bytes_eq w (codes "load") ≡ reads → bytes_eq w (codes "store") ≡ stores → bytes_eq w (codes "put") ≡ puts
         → cond makes (new_by_name state.classes ws)
@@ -187,6 +228,14 @@ event_alone state w ws e is = go (bytes_eq w (codes "new")) (bytes_eq w (codes "
         let x = mapped_from (λ (n : ℕ × ℕ × ℕ × ℕ). Put n.0 n.1 n.2 n.3) (write_by_name state ws) e is in
         alone_by w (codes "put") ws l (no_put ws (write_by_name_alone state ws x.0 x.1)) (λ bm. put_asks_nothing bm ws)
     go false false false false false h i j k l is = absurd (cc is)
+
+event_alone : (state : HeapState) (w : List ℕ) (ws : List (List ℕ)) (e : Event) → event_by_name state w ws ≡ Some e → IsEventAlone w ws
+unfolding event_by_name
+event_alone state w ws e is = go (bytes_eq w (codes "class")) refl is
+  where
+    go : (defines : Bool) → bytes_eq w (codes "class") ≡ defines → cond defines (class_by_name state.classes ws) (object_event_by_name state w ws) ≡ Some e → IsEventAlone w ws
+    go true h is = alone_by w (codes "class") ws h (no_class_line ws (class_by_name_alone state.classes ws e is)) (λ bm. class_asks_nothing bm ws)
+    go false h is = object_event_alone state w ws e is
 
 -- ---- orders of both sorts
 
@@ -212,3 +261,14 @@ either_asks_nothing bm state ws o (Some p) h e = order_asks_nothing bm ws p h
 
 pub line_asks_nothing : (bm : Bookmarks) (state : HeapState) (l : List ℕ) (o : Order) → order_in bm state l ≡ Some o → (question_of bm l ≡ None) × (help_of l ≡ None)
 line_asks_nothing bm state l o e = either_asks_nothing bm state (words_of_line l) o (order_of_words bm (words_of_line l)) refl e
+
+-- ---- no memory
+
+-- nothing is done for a line of which reading takes memory, if there is none
+pub unread_for_no_memory : (o : Option Order) (l : List ℕ) (c : Asking) → MayTakeMemory o → AnswersLine o l c (refused_text NoMemory) c
+unread_for_no_memory None l c h = absurd h
+unread_for_no_memory (Some Collect) l c h = absurd h
+unread_for_no_memory (Some (RewindTo place)) l c h = absurd h
+unread_for_no_memory (Some (Forward n)) l c h = absurd h
+unread_for_no_memory (Some (ForwardTo place)) l c h = absurd h
+unread_for_no_memory (Some (Act e)) l c h = (inr (h, (refl, refl, refl)), refl, refl)

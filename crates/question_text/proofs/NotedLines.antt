@@ -1,4 +1,4 @@
--- Lines that a session notes, and `open @WORD`, are no others; and no other line changes anything.
+-- Lines that a session notes, and `open` and `open @WORD`, are no others; and no other line changes anything.
 use Rattle.std.proofs.Common.{◌≡◌, ◌∙◌, ap, ap₂, ℕ, Bool, true, false, cond, List, [], ◌∷◌, Some, None, refl, sym, subst}
 use Rattle.std.specs.Prelude.{◌&&◌, Option, codes, drop, is_some, not, option_and_then, option_map, slice_index, take, unwrap_or}
 use Rattle.std.specs.Option.{option_or}
@@ -12,9 +12,9 @@ use Rattle.session_grammar.specs.declared.command.Command.TheVariants.{Ask, Bad}
 use Rattle.session_grammar.specs.Grammar.{access_rules, at_end, by_rule, class_rules, command_of_words, making_rules, marking_rules, number_of_word, place_or_dash, session_rules, words_of_line}
 use Rattle.question_grammar.specs.Bookmarks.{Bookmarks, place_named}
 use Rattle.question_grammar.specs.Chains.{chain_of_words}
-use Rattle.question_grammar.specs.EventNames.{event_by_name, event_of_words}
+use Rattle.question_grammar.specs.EventNames.{event_by_name, event_of_words, object_event_by_name}
 use Rattle.question_grammar.specs.NamedLines.{named_question_of_words, named_rules}
-use Rattle.question_grammar.specs.NoteLines.{name_of_word, name_set, place_by_name, place_opened, place_set, word_behind}
+use Rattle.question_grammar.specs.NoteLines.{name_of_word, name_set, place_behind_open, place_by_name, place_opened, place_opened_by, place_set, word_behind}
 use Rattle.question_grammar.specs.Orders.{order_in, order_of_two, order_of_words}
 use Rattle.question_grammar.specs.Questions.{past_rules, place_of_word, question_of, question_of_words, question_rules}
 use Rattle.question_grammar.specs.declared.order.Order.{Order}
@@ -72,11 +72,11 @@ alone_line bm state l ws is a =
     }
 
 at_words : (bm : Bookmarks) (state : HeapState) (v : List ℕ) → AreAlone bm state (codes "at" ∷ v ∷ [])
-unfolding by_rule class_rules making_rules access_rules marking_rules session_rules order_of_words order_of_two event_by_name question_of_words question_rules past_rules named_question_of_words named_rules
+unfolding by_rule class_rules making_rules access_rules marking_rules session_rules order_of_words order_of_two event_by_name object_event_by_name question_of_words question_rules past_rules named_question_of_words named_rules
 at_words bm state v = record { command = refl; order = refl; event = refl; question = refl; named = refl; chain = refl; help = refl }
 
 name_words : (bm : Bookmarks) (state : HeapState) (v : List ℕ) → AreAlone bm state (codes "name" ∷ v ∷ [])
-unfolding by_rule class_rules making_rules access_rules marking_rules session_rules order_of_words order_of_two event_by_name question_of_words question_rules past_rules named_question_of_words named_rules
+unfolding by_rule class_rules making_rules access_rules marking_rules session_rules order_of_words order_of_two event_by_name object_event_by_name question_of_words question_rules past_rules named_question_of_words named_rules
 name_words bm state v = record { command = refl; order = refl; event = refl; question = refl; named = refl; chain = refl; help = refl }
 
 pub place_alone : (bm : Bookmarks) (state : HeapState) (l : List ℕ) (to : Option ℕ) → place_set bm l ≡ Some to → IsAlone bm state l
@@ -89,7 +89,7 @@ name_alone bm state l w e =
     let said = said_behind (codes "name") (words_of_line l) (λ w. name_of_word w) w (word_behind (codes "name") (words_of_line l)) refl e in
     alone_line bm state l (codes "name" ∷ said.0 ∷ []) said.1 (name_words bm state said.0)
 
--- ---- `open @WORD`
+-- ---- `open` and `open @WORD`
 
 first_sign : (c : ℕ) (v : List ℕ) → bytes_eq (take 1 (c ∷ v)) (codes "@") ≡ true → c ≡ 64
 first_sign c v e = ap (λ (l : List ℕ). slice_index l 0) ((bytes_eq-Decides (take 1 (c ∷ v)) (codes "@")).0 e)
@@ -118,18 +118,40 @@ unfolding by_rule class_rules making_rules access_rules marking_rules session_ru
 no_open v e =
     ap (λ (o : Option (Option ℕ)). unwrap_or (option_map (λ at. Ask (OpenPin at)) (option_and_then (λ (a : Option ℕ × List (List ℕ)). at_end a.0 a.1) (option_map (λ at. (at, [])) o))) Bad) e
 
-open_words : (bm : Bookmarks) (state : HeapState) (v : List ℕ) → place_or_dash v ≡ None → AreAlone bm state (codes "open" ∷ v ∷ [])
-unfolding order_of_words order_of_two event_by_name question_of_words question_rules past_rules named_question_of_words named_rules
-open_words bm state v e = record { command = no_open v e; order = refl; event = refl; question = refl; named = refl; chain = refl; help = refl }
+-- `open` alone or with one word is none of the others, if it is none of the grammar
+open_words : (bm : Bookmarks) (state : HeapState) (ws : List (List ℕ)) → command_of_words (codes "open" ∷ ws) ≡ Bad → order_of_words bm (codes "open" ∷ ws) ≡ None → AreAlone bm state (codes "open" ∷ ws)
+unfolding event_by_name object_event_by_name question_of_words question_rules past_rules named_question_of_words named_rules
+open_words bm state ws e none = record { command = e; order = none; event = refl; question = refl; named = refl; chain = refl; help = refl }
 
-opened_word : (bm : Bookmarks) (l : List ℕ) (place : ℕ) → place_opened bm l ≡ Some place → (v : List ℕ) × (words_of_line l ≡ codes "open" ∷ v ∷ []) × (place_by_name bm v ≡ Some place)
-opened_word bm l place e = said_behind (codes "open") (words_of_line l) (λ w. place_by_name bm w) place (word_behind (codes "open") (words_of_line l)) refl e
+open_orders_nothing : (bm : Bookmarks) (ws : List (List ℕ)) → order_of_words bm (codes "open" ∷ ws) ≡ None
+unfolding order_of_words order_of_two
+open_orders_nothing bm [] = refl
+open_orders_nothing bm (v ∷ ws) = refl
 
-pub open_alone : (bm : Bookmarks) (state : HeapState) (l : List ℕ) (place : ℕ) → place_opened bm l ≡ Some place → IsAlone bm state l
-open_alone bm state l place e =
-    let said = opened_word bm l place e in
-    let begins = name_begins_with_sign bm said.0 place said.2 in
-    alone_line bm state l (codes "open" ∷ said.0 ∷ []) said.1 (open_words bm state said.0 (no_place said.0 begins.0 begins.1))
+no_open_alone : command_of_words (codes "open" ∷ []) ≡ Bad
+unfolding by_rule class_rules making_rules access_rules marking_rules session_rules
+no_open_alone = refl
+
+open_name_alone : (bm : Bookmarks) (v : List ℕ) (place : Option ℕ) (named : Option ℕ) → place_by_name bm v ≡ named → option_map Some named ≡ Some place → command_of_words (codes "open" ∷ v ∷ []) ≡ Bad
+open_name_alone bm v place None is e = absurd (cc e)
+open_name_alone bm v place (Some p) is e =
+    let begins = name_begins_with_sign bm v p is in no_open v (no_place v begins.0 begins.1)
+
+open_behind : (bm : Bookmarks) (state : HeapState) (ws : List (List ℕ)) (place : Option ℕ) → place_behind_open bm ws ≡ Some place → AreAlone bm state (codes "open" ∷ ws)
+open_behind bm state [] place e = open_words bm state [] no_open_alone (open_orders_nothing bm [])
+open_behind bm state (v ∷ []) place e = open_words bm state (v ∷ []) (open_name_alone bm v place (place_by_name bm v) refl e) (open_orders_nothing bm (v ∷ []))
+open_behind bm state (v ∷ u ∷ ws) place e = absurd (cc e)
+
+open_by_words : (bm : Bookmarks) (state : HeapState) (ws : List (List ℕ)) (place : Option ℕ) → place_opened_by bm ws ≡ Some place → AreAlone bm state ws
+open_by_words bm state [] place e = absurd (cc e)
+open_by_words bm state (w ∷ ws) place e = go (bytes_eq w (codes "open")) refl e
+  where
+    go : (b : Bool) → bytes_eq w (codes "open") ≡ b → cond b (place_behind_open bm ws) None ≡ Some place → AreAlone bm state (w ∷ ws)
+    go true h e = subst (λ (x : List ℕ). AreAlone bm state (x ∷ ws)) (sym ((bytes_eq-Decides w (codes "open")).0 h)) (open_behind bm state ws place e)
+    go false h e = absurd (cc e)
+
+pub open_alone : (bm : Bookmarks) (state : HeapState) (l : List ℕ) (place : Option ℕ) → place_opened bm l ≡ Some place → IsAlone bm state l
+open_alone bm state l place e = alone_line bm state l (words_of_line l) refl (open_by_words bm state (words_of_line l) place e)
 
 -- ---- what none of these lines is
 
@@ -168,7 +190,7 @@ same_asking None l text c d none sets a =
     let n = notes_nothing (place_set c.bookmarks l) (name_set l) l c.local.machine None c.bookmarks text d.bookmarks sets.place sets.name a.0 in
     (n.0, a.1 ∙ ap (λ (b : Bookmarks). record c { bookmarks = b }) n.1)
 
-same_opening : (opened : Option ℕ) (l text : List ℕ) (c d : Asking) → opened ≡ None → order_in c.bookmarks c.local.machine.trail.current l ≡ None → IsUnnoted c.bookmarks l → OpensOrAnswers opened l c text d → IsAnsweredAlone l text c d
+same_opening : (opened : Option (Option ℕ)) (l text : List ℕ) (c d : Asking) → opened ≡ None → order_in c.bookmarks c.local.machine.trail.current l ≡ None → IsUnnoted c.bookmarks l → OpensOrAnswers opened l c text d → IsAnsweredAlone l text c d
 same_opening (Some place) l text c d opened none sets a = absurd (cc opened)
 same_opening None l text c d opened none sets a = same_asking (order_in c.bookmarks c.local.machine.trail.current l) l text c d none sets a
 
@@ -199,7 +221,7 @@ alone_change : (order : Option Order) (l text : List ℕ) (c d : Asking) → ord
 alone_change (Some o) l text c d none a = absurd (cc none)
 alone_change None l text c d none a = a.1
 
-alone_change_by : (opened : Option ℕ) (l text : List ℕ) (c d : Asking) → opened ≡ None → order_in c.bookmarks c.local.machine.trail.current l ≡ None → OpensOrAnswers opened l c text d → d ≡ record c { bookmarks = d.bookmarks }
+alone_change_by : (opened : Option (Option ℕ)) (l text : List ℕ) (c d : Asking) → opened ≡ None → order_in c.bookmarks c.local.machine.trail.current l ≡ None → OpensOrAnswers opened l c text d → d ≡ record c { bookmarks = d.bookmarks }
 alone_change_by (Some place) l text c d opened none a = absurd (cc opened)
 alone_change_by None l text c d opened none a = alone_change (order_in c.bookmarks c.local.machine.trail.current l) l text c d none a
 

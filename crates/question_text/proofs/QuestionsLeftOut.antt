@@ -59,7 +59,7 @@ question_leaves (Some o) l text c d e h = absurd (cc e)
 question_leaves None l text c d e h = ap (λ (x : Asking). x.local) h.1
 
 -- so does a line that opens no pin and is no order
-line_leaves : (opened : Option ℕ) (l text : List ℕ) (c d : Asking) → opened ≡ None → order_in c.bookmarks c.local.machine.trail.current l ≡ None → OpensOrAnswers opened l c text d → d.local ≡ c.local
+line_leaves : (opened : Option (Option ℕ)) (l text : List ℕ) (c d : Asking) → opened ≡ None → order_in c.bookmarks c.local.machine.trail.current l ≡ None → OpensOrAnswers opened l c text d → d.local ≡ c.local
 line_leaves (Some place) l text c d e none h = absurd (cc e)
 line_leaves None l text c d e none h = question_leaves (order_in c.bookmarks c.local.machine.trail.current l) l text c d none h
 
@@ -149,15 +149,16 @@ order_driven m Collect x n r r' text h d = cycle_driven m x n h.0 h.1 h.2 d
 order_driven m (RewindTo place) x n r r' text h d = rewind_driven m x n r r' (steps_ago (Some place) x.trail) text h d
 order_driven m (Forward count) x n r r' text h d = forward_driven count m x n r r' text h d
 order_driven m (ForwardTo place) x n r r' text h d = forward_to_driven (steps_on place x.trail r) m x n r r' text h d
-order_driven m (Act e) x n r r' text h d = act_driven m x n r r' (Step e) text h d
+order_driven m (Act e) x n r r' text (inl h) d = act_driven m x n r r' (Step e) text h d
+order_driven m (Act e) x n r r' text (inr h) d = subst (IsDriven m) (sym h.1.1) d
 
 unknown_driven : (m : Machine) (order : Option Order) (l text : List ℕ) (c d : Asking) → AnswersLine order l c text d → IsDriven m c.local.machine → IsDriven m d.local.machine
 unknown_driven m (Some order) l text c d h p = order_driven m order c.local.machine d.local.machine c.redo d.redo text h.0 p
 unknown_driven m None l text c d h p = subst (λ (x : Asking). IsDriven m x.local.machine) (sym h.1) p
 
-opened_driven : (m : Machine) (opened : Option ℕ) (l text : List ℕ) (c d : Asking) → OpensOrAnswers opened l c text d → IsDriven m c.local.machine → IsDriven m d.local.machine
+opened_driven : (m : Machine) (opened : Option (Option ℕ)) (l text : List ℕ) (c d : Asking) → OpensOrAnswers opened l c text d → IsDriven m c.local.machine → IsDriven m d.local.machine
 opened_driven m (Some place) l text c d h p =
-    (p.0 ++ OpenPin (Some place) ∷ [], p.1 ++ h.0 ∷ [], driven_more m p.0 p.1 c.local.machine d.local.machine (OpenPin (Some place)) h.0 p.2 h.1.0)
+    (p.0 ++ OpenPin place ∷ [], p.1 ++ h.0 ∷ [], driven_more m p.0 p.1 c.local.machine d.local.machine (OpenPin place) h.0 p.2 h.1.0)
 opened_driven m None l text c d h p = unknown_driven m (order_in c.bookmarks c.local.machine.trail.current l) l text c d h p
 
 line_driven : (m : Machine) (time : ℕ) (l : List ℕ) (c : Asking) (text : List ℕ) (d : Asking) (b : Bool) → is_known (command_of l) ≡ b → Says time l c text d → IsDriven m c.local.machine → IsDriven m d.local.machine

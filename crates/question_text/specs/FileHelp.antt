@@ -12,7 +12,9 @@ use Rattle.question_text.specs.Help.{LineForm, all_forms, form_of, form_with, he
 unfoldable pub file_forms : List LineForm
 file_forms =
     form_of (codes "write") (codes "write [AT] PATH") (codes "write heap.hprof")
-    ∷ form_of (codes "draw") (codes "draw PATH") (codes "draw heap.svg")
+    (codes "writes the dump of a state to a new file")
+    ∷ form_of (codes "draw") (codes "draw [AT] PATH") (codes "draw heap.svg")
+    (codes "writes a picture of the regions to a new file")
     ∷ []
 
 -- the answer of `help`: a row for each line, and for each that writes a file

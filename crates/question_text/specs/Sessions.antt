@@ -1,6 +1,8 @@
 -- Sessions with questions.
-use Rattle.std.specs.Prelude.{◌≡◌, ℕ, Bool, true, false, List, [], ◌∷◌, Option, Some, None, filter, flat_map, map}
+use Rattle.std.specs.Prelude.{◌≡◌, ◌⊎◌, ℕ, Bool, true, false, List, [], ◌∷◌, Option, Some, None, filter, flat_map, map}
 use Rattle.std.specs.List.{AllByRecursion}
+use Rattle.heap_class.specs.declared.Refusal.TheVariants.{NoMemory}
+use Rattle.heap_step.specs.declared.Event.{Event}
 use Rattle.heap_trail.specs.declared.Action.{Action}
 use Rattle.heap_trail.specs.declared.Reply.{Reply}
 use Rattle.heap_trail.specs.Machine.{Allocation, Machine, MayDrive}
@@ -8,6 +10,7 @@ use Rattle.heap_world.specs.State.{HeapState}
 use Rattle.session_grammar.specs.declared.command.Command.{Command}
 use Rattle.session_grammar.specs.declared.command.Command.TheVariants.{Bad}
 use Rattle.session_grammar.specs.Grammar.{command_of, command_of_text, without_cr}
+use Rattle.session_grammar.specs.Reads.{DefinesClass}
 use Rattle.session_text.specs.declared.Ended.TheVariants.{Eof}
 use Rattle.session_text.specs.declared.ReadEnd.TheVariants.{Over}
 use Rattle.session_text.specs.Session.{AllocationsFit, session_of}
@@ -33,7 +36,7 @@ use Rattle.heap_orders.specs.Redos.{noted, with_steps, GoesForward}
 use Rattle.heap_trail.specs.declared.Action.TheVariants.{OpenPin, Step}
 use Rattle.session_text.specs.Replies.{reply_text}
 use Rattle.question_grammar.specs.declared.order.Order.TheVariants.{Act, Collect, Forward, ForwardTo, RewindTo}
-use Rattle.heap_orders.specs.Deeds.{Deed, ActsOnce, Collects, RewindsTo, GoesForwardTo}
+use Rattle.heap_orders.specs.Deeds.{Deed, ActsOnce, Collects, IsRefusedDeed, RewindsTo, GoesForwardTo}
 
 -- an action, as without questions, which is noted
 abbrev pub AskingActs : Acts Asking
@@ -47,13 +50,18 @@ HasNoted c steps d =
     (d.redo ≡ with_steps steps c.redo) × (d.local.first_pin ≡ c.local.first_pin)
     × (d.watch ≡ c.watch) × (d.bookmarks ≡ c.bookmarks)
 
+-- an event by a name; or there was no memory to read the class that it defines, and nothing is done
+abbrev pub TakesNamed : Event → Deed
+TakesNamed e m r text m' r' =
+    ActsOnce (Step e) m r text m' r' ⊎ (DefinesClass e × IsRefusedDeed NoMemory m r text m' r')
+
 -- what is asked to be done
 abbrev pub Does : Order → Deed
 Does Collect = Collects
 Does (RewindTo place) = RewindsTo place
 Does (Forward n) = GoesForward n
 Does (ForwardTo place) = GoesForwardTo place
-Does (Act e) = ActsOnce (Step e)
+Does (Act e) = TakesNamed e
 
 -- an order does what it asks, and no other line changes anything but bookmarks
 abbrev pub AnswersLine : Option Order → AnswerRelation Asking
@@ -64,10 +72,10 @@ AnswersLine None l c text d =
     NotesLine l c.local.machine None c.bookmarks text d.bookmarks
     × (d ≡ record c { bookmarks = d.bookmarks })
 
--- a pin is opened on the state at a place; or the line is answered as above
-abbrev pub OpensOrAnswers : Option ℕ → AnswerRelation Asking
+-- a pin is opened on the state at a place, or on the current one; or the line is answered as above
+abbrev pub OpensOrAnswers : Option (Option ℕ) → AnswerRelation Asking
 OpensOrAnswers (Some place) l c text d =
-    (r : Reply) × AskingActs c (OpenPin (Some place)) r d × (text ≡ reply_text r)
+    (r : Reply) × AskingActs c (OpenPin place) r d × (text ≡ reply_text r)
 OpensOrAnswers None l c text d =
     AnswersLine (order_in c.bookmarks c.local.machine.trail.current l) l c text d
 
@@ -123,7 +131,7 @@ texts_of answered = flat_map (λ a. a.1) answered
 abbrev pub known_of : List (List ℕ × List ℕ) → List (List ℕ × List ℕ)
 known_of answered = filter (λ a. is_known (command_of a.0)) answered
 
--- the line opens no pin by a name and is no order, in any state, by any bookmarks
+-- the line is no `open` that the grammar of sessions doesn't know, and no order, in any state, by any bookmarks
 abbrev pub IsNoOrder : List ℕ → Type 0
 IsNoOrder l =
     (b : Bookmarks) (state : HeapState)

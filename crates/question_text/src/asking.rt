@@ -96,13 +96,13 @@ impl<'a> Asking<'a> {
         }
     }
 
-    // Opens a pin on the state at a place.
-    fn open(&mut self, place: u64) -> LineAnswer
-        ensures opens { (r : Reply) × AskingActs self.old (OpenPin (Some place)) r self.new
+    // Opens a pin on the state at a place, or on the current one.
+    fn open(&mut self, place: Option<u64>) -> LineAnswer
+        ensures opens { (r : Reply) × AskingActs self.old (OpenPin place) r self.new
             × (line_answer_text result ≡ reply_text r) }
         ensures watch { self.new.watch ≡ self.old.watch }
     {
-        let reply = self.local.machine.act(&Action::OpenPin(Some(place)));
+        let reply = self.local.machine.act(&Action::OpenPin(place));
         LineAnswer::Known(reply)
     }
 
@@ -113,9 +113,10 @@ impl<'a> Asking<'a> {
             self.old (line_answer_text result) self.new }
         ensures watch { self.new.watch ≡ self.old.watch }
     {
-        match order_in(&self.bookmarks, self.local.machine.world(), line) {
-            Some(order) => self.obey(alloc, order),
-            None => self.note_line(alloc, line),
+        match order_in(alloc, &self.bookmarks, self.local.machine.world(), line) {
+            Ok(Some(order)) => self.obey(alloc, order),
+            Ok(None) => self.note_line(alloc, line),
+            Err(_) => LineAnswer::Known(Reply::Refused(Refusal::NoMemory)),
         }
     }
 

@@ -70,7 +70,7 @@ fn all_file_help(alloc: Global) -> Result<Vec<u8>, AllocError>
 pub fn file_rows() -> &'static [u8]
     ensures { result.now ≡ help_rows file_forms }
 {
-    b"row write [AT] PATH\nrow draw PATH\n"
+    b"row write [AT] PATH\nrow draw [AT] PATH\n"
 }
 
 /// Returns what `help` answers about a keyword of a line that writes a file, or None if it is none. Takes no memory.
@@ -79,8 +79,8 @@ pub fn file_keyword_help(word: &[u8]) -> Option<&'static [u8]>
     ensures { option_map (λ t. t.now) result ≡ form_with file_forms word.now }
 {
     by_word!(word;
-        b"write" => Some(b"row write [AT] PATH\nrow write heap.hprof\nok\n"),
-        b"draw" => Some(b"row draw PATH\nrow draw heap.svg\nok\n"),
+        b"write" => Some(b"row write [AT] PATH\nrow write heap.hprof\nrow # writes the dump of a state to a new file\nok\n"),
+        b"draw" => Some(b"row draw [AT] PATH\nrow draw heap.svg\nrow # writes a picture of the regions to a new file\nok\n"),
         _ => None
     )
 }

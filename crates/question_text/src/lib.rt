@@ -87,10 +87,10 @@ pub fn orders_are_new()
         → order_in b state l ≡ Some o → command_of_text l ≡ Bad }
 {}
 
-/// States the same of `open @WORD`, and of the lines that a session notes: `at @P`, `at -` and `name WORD`. None of them asks a
+/// States the same of `open` and `open @WORD`, and of the lines that a session notes: `at @P`, `at -` and `name WORD`. None of them asks a
 /// question or for help, or is one of those that change the heap.
 pub fn notes_are_new()
-    ensures opens { (b : Bookmarks) (state : HeapState) (l : List ℕ) (place : ℕ)
+    ensures opens { (b : Bookmarks) (state : HeapState) (l : List ℕ) (place : Option ℕ)
         → place_opened b l ≡ Some place → IsAlone b state l }
     ensures places { (b : Bookmarks) (state : HeapState) (l : List ℕ) (to : Option ℕ)
         → place_set b l ≡ Some to → IsAlone b state l }
@@ -98,7 +98,7 @@ pub fn notes_are_new()
         → name_set l ≡ Some w → IsAlone b state l }
 {}
 
-/// States the same of the lines that write files, `write [AT] PATH` and `draw PATH`: no session notes them or opens a pin by them
+/// States the same of the lines that write files, `write [AT] PATH` and `draw [AT] PATH`: no session notes them or opens a pin by them
 /// either.
 pub fn file_lines_are_new()
     ensures alone { (b : Bookmarks) (state : HeapState) (l path : List ℕ) (content : FileContent)
@@ -119,7 +119,8 @@ pub fn comments_are_silent()
 {}
 
 /// States that a question and a line that asks for help change nothing, and that no other line which the grammar of sessions
-/// doesn't know changes anything but bookmarks, except for `collect`, `rewind @P`, `forward`, events by names and `open @WORD`.
+/// doesn't know changes anything but bookmarks, except for `collect`, `rewind @P`, `forward`, events by names, `open` and `open
+/// @WORD`.
 pub fn questions_change_nothing()
     ensures questions { (l text : List ℕ) (q : Question) (c d : Asking)
         → question_of c.bookmarks l ≡ Some q → AskingAnswers l c text d → d ≡ c }

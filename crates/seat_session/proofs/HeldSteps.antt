@@ -28,9 +28,11 @@ use Rattle.heap_lock.proofs.Histories.{numbered_entries_of_one_more}
 use Rattle.heap_lock.proofs.StepReplies.{step_replies_no_place}
 use Rattle.heap_orders.specs.Collections.{IsShortage, TakenStep}
 use Rattle.question_grammar.specs.declared.order.Order.{Order}
+use Rattle.question_grammar.specs.declared.order.Order.TheVariants.{Act, Collect, Forward, ForwardTo, RewindTo}
+use Rattle.question_grammar.specs.Orders.{MayTakeMemory}
 use Rattle.heap_orders.proofs.CycleSteps.{short}
 use Rattle.question_grammar.specs.Bookmarks.{Bookmarks}
-use Rattle.seat_session.specs.JoinedAnswers.{AnswersForSeat, AnswersHeld, DoesHeld, Gains, IsHeapOfSeat, LeavesSeen, entries_of_steps, order_obeyed}
+use Rattle.seat_session.specs.JoinedAnswers.{ActsHeld, AnswersForSeat, AnswersHeld, DoesHeld, Gains, IsHeapOfSeat, IsRefusedHeld, LeavesSeen, entries_of_steps, order_obeyed}
 
 -- a step that is refused leaves the machine
 refused_step_leaves_machine : (m n : Machine) (e : Event) (r : Refusal) → acted m (Step e) ≡ (n, Refused r) → n ≡ m
@@ -154,6 +156,25 @@ pub done_under_lock : (config : HeapSettings) (order : Order) (line : List ℕ) 
     → LeavesSeen config (λ (last : LockState). DoesHeld config order k s text last s') s' seen' → LeavesSeen config (λ (last : LockState). AnswersHeld config asked line k s b text last s' b') s' seen'
 done_under_lock config order line k s s' b b' text asked seen' is same h =
     (h.0, subst (λ (o : Option Order). AnswersHeld config o line k s b text h.0 s' b') (sym is) (h.1, same), h.2, h.3)
+
+-- a step, as an event by a name
+pub taken_under_lock : (config : HeapSettings) (order : Order) (e : Event) (k : LockState) (s s' : SeatModel) (text : List ℕ) (seen' : List Call) → order ≡ Act e
+    → LeavesSeen config (λ (last : LockState). ActsHeld config (Step e) k s text last s') s' seen' → LeavesSeen config (λ (last : LockState). DoesHeld config order k s text last s') s' seen'
+taken_under_lock config order e k s s' text seen' is h =
+    (h.0, subst (λ (o : Order). DoesHeld config o k s text h.0 s') (sym is) (inl h.1), h.2, h.3)
+
+-- nothing is done for a line of which reading takes memory, if there is none
+unread_held : (config : HeapSettings) (order : Option Order) (line : List ℕ) (k last : LockState) (s s' : SeatModel) (b : Bookmarks) (text : List ℕ) → MayTakeMemory order → IsRefusedHeld NoMemory k s text last s' → AnswersHeld config order line k s b text last s' b
+unread_held config None line k last s s' b text h refused = absurd h
+unread_held config (Some Collect) line k last s s' b text h refused = absurd h
+unread_held config (Some (RewindTo place)) line k last s s' b text h refused = absurd h
+unread_held config (Some (Forward n)) line k last s s' b text h refused = absurd h
+unread_held config (Some (ForwardTo place)) line k last s s' b text h refused = absurd h
+unread_held config (Some (Act e)) line k last s s' b text h refused = (inr (h, refused), refl)
+
+pub unread_under_lock : (config : HeapSettings) (order : Option Order) (line : List ℕ) (k : LockState) (s s' : SeatModel) (b : Bookmarks) (text : List ℕ) (seen' : List Call) → MayTakeMemory order
+    → LeavesSeen config (λ (last : LockState). IsRefusedHeld NoMemory k s text last s') s' seen' → LeavesSeen config (λ (last : LockState). AnswersHeld config order line k s b text last s' b) s' seen'
+unread_under_lock config order line k s s' b text seen' takes h = (h.0, unread_held config order line k h.0 s s' b text takes h.1, h.2, h.3)
 
 -- an answer that one gives who saw the heap before, under the same lock
 pub answer_under_lock : (config : HeapSettings) (obeys : Bool) (line : List ℕ) (seen seen' : List Call) (order : Option Order) (text : List ℕ) (k k1 : LockState) (s s1 s' : SeatModel) (b b' : Bookmarks) → IsHeapOfSeat config k.machine k.chronicle k.ledger s → IsPrefix seen k.ledger → k1 ≡ k → s1 ≡ s → order ≡ order_obeyed obeys b k1.machine.trail.current line

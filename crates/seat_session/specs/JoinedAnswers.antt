@@ -1,9 +1,9 @@
 -- What a seat at a shared heap answers a line that the grammar of sessions doesn't know.
-use Rattle.std.specs.Prelude.{◌≡◌, ℕ, ◌+◌, ◌++◌, Bool, true, false, List, length, map, Option, Some, None, Result, Ok, Err}
+use Rattle.std.specs.Prelude.{◌≡◌, ◌⊎◌, ℕ, ◌+◌, ◌++◌, Bool, true, false, List, length, map, Option, Some, None, Result, Ok, Err}
 use Rattle.std.specs.List.{enumerate_from}
 use mathlib.Core.List.{IsPrefix}
 use Rattle.heap_lock.specs.Refusal.{Refusal}
-use Rattle.heap_lock.specs.Refusal.TheVariants.{NotRetained}
+use Rattle.heap_lock.specs.Refusal.TheVariants.{NoMemory, NotRetained}
 use Rattle.heap_lock.specs.HeapLimits.{HeapSettings}
 use Rattle.heap_lock.specs.Calls.{Call, IsHeapLedger, call_of}
 use Rattle.heap_lock.specs.Machine.{Machine}
@@ -16,6 +16,7 @@ use Rattle.heap_lock.specs.History.{entry, entries_by}
 use Rattle.heap_lock.specs.Receipt.{Receipt}
 use Rattle.heap_lock.specs.Reply.{Reply}
 use Rattle.heap_lock.specs.LockStates.{SeatModel, IsHeldAct, IsNoEntry, LockState}
+use Rattle.session_grammar.specs.Reads.{DefinesClass}
 use Rattle.session_text.specs.Replies.{reply_text}
 use Rattle.question_grammar.specs.Bookmarks.{Bookmarks}
 use Rattle.question_text.specs.Notes.{NotesLine}
@@ -86,7 +87,7 @@ abbrev pub LacksUndone : ℕ → LockState → SeatModel → List ℕ → LockSt
 LacksUndone n k s text k' s' =
     IsTextOrNoMemory (λ text. text ≡ nothing_to_redo_text n 0) text × (k' ≡ k) × (s' ≡ s)
 
--- what one who holds the lock does as a line asks, by acts of the seat, and its answer
+-- what one who holds the lock does as a line asks, by acts of the seat, and its answer; there may be no memory to read a class
 abbrev pub DoesHeld : HeapSettings → Order → LockState → SeatModel → List ℕ → LockState → SeatModel
     → Type 0
 DoesHeld config Collect k s text k' s' = CollectsHeld k s text k' s'
@@ -94,7 +95,9 @@ DoesHeld config (RewindTo place) k s text k' s' =
     RewindsHeld config (steps_ago (Some place) k.machine.trail) k s text k' s'
 DoesHeld config (Forward n) k s text k' s' = LacksUndone n k s text k' s'
 DoesHeld config (ForwardTo place) k s text k' s' = IsRefusedHeld NotRetained k s text k' s'
-DoesHeld config (Act e) k s text k' s' = ActsHeld config (Step e) k s text k' s'
+DoesHeld config (Act e) k s text k' s' =
+    ActsHeld config (Step e) k s text k' s'
+    ⊎ (DefinesClass e × IsRefusedHeld NoMemory k s text k' s')
 
 -- the same of a line that the grammar of sessions doesn't know, in a session with these bookmarks: if it asks for nothing to be
 -- done, it changes at most these, and the answer of a question is about the heap's machine and the length of its chronicle

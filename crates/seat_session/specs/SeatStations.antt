@@ -28,10 +28,10 @@ abbrev pub seat_acts : HeapSettings → Acts Station
 seat_acts config c a r d =
     IsJoined config c.seat c.seen a r d.seat d.seen × (d.bookmarks ≡ c.bookmarks)
 
--- a pin is opened on the state at a place; or the seat answers a line, as it stands and without opening one
-abbrev pub OpensOrAnswers : HeapSettings → Option ℕ → AnswerRelation Station
+-- a pin is opened on the state at a place, or on the current one; or the seat answers a line, as it stands and without opening one
+abbrev pub OpensOrAnswers : HeapSettings → Option (Option ℕ) → AnswerRelation Station
 OpensOrAnswers config (Some place) l c text d =
-    (r : Reply) × seat_acts config c (OpenPin (Some place)) r d × (text ≡ reply_text r)
+    (r : Reply) × seat_acts config c (OpenPin place) r d × (text ≡ reply_text r)
 OpensOrAnswers config None l c text d =
     AnswersForSeat config true l c.seat c.seen c.bookmarks text d.seat d.seen d.bookmarks
 

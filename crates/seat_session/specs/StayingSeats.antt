@@ -132,12 +132,12 @@ AnswersSeat config obeys l c text d =
     AnswersForSeat config obeys l c.seat c.seen c.bookmarks text d.seat d.seen d.bookmarks
     × (d.pins ≡ c.pins)
 
--- a pin is opened on the state at a place, and noted; or the seat answers a line
-abbrev pub OpensOrAnswersSeat : HeapSettings → Option ℕ → List ℕ → StayingStation → List ℕ
+-- a pin is opened on the state at a place, or on the current one, and noted; or the seat answers a line
+abbrev pub OpensOrAnswersSeat : HeapSettings → Option (Option ℕ) → List ℕ → StayingStation → List ℕ
     → StayingStation
     → Type 0
 OpensOrAnswersSeat config (Some place) l c text d =
-    (r : Reply) × ActsNoted config c (OpenPin (Some place)) r d × (d.bookmarks ≡ c.bookmarks)
+    (r : Reply) × ActsNoted config c (OpenPin place) r d × (d.bookmarks ≡ c.bookmarks)
     × (text ≡ reply_text r)
 OpensOrAnswersSeat config None l c text d = AnswersSeat config true l c text d
 

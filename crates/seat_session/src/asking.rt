@@ -56,7 +56,7 @@ impl<'a, L: Heap, R: Wait> Commands for AskingSeat<'a, L, R> {
 
     fn answer_unknown(&mut self, alloc: Global, line: &[u8]) -> LineAnswer {
         match self.joined.place_opened(line) {
-            Some(place) => LineAnswer::Known(self.joined.act(Action::OpenPin(Some(place)))),
+            Some(place) => LineAnswer::Known(self.joined.act(Action::OpenPin(place))),
             None => self.joined.answer_line(alloc, true, line),
         }
     }

@@ -1,5 +1,6 @@
 //! A shared heap as its holder has it, about which questions are answered, and on which other lines act.
-ghost use Rattle.std.specs.Prelude.{◌≡◌, None, Some};
+ghost use Rattle.std.specs.Prelude.{◌≡◌, MatchResult, None, Some};
+ghost use Rattle.question_grammar.specs.Orders.{MayTakeMemory};
 ghost use Rattle.session_text.specs.Replies.{line_answer_text};
 ghost use Rattle.heap_lock.specs.declared.role.Role.TheVariants.{User};
 ghost use Rattle.heap_lock.specs.Action.TheVariants.{Step};
@@ -14,7 +15,7 @@ use question_grammar::{Bookmarks, Order, order_in};
 use question_text::note_line;
 use question_words::steps_ago;
 use session_text::LineAnswer;
-use std::alloc::Global;
+use std::alloc::{AllocError, Global};
 
 // The heap under its lock.
 #[derive(Drop)]
@@ -73,8 +74,10 @@ pub(crate) fn answer_held<L: Heap>(
     ensures role { seat.new.role ≡ User }
 {
     see_all(kept, seat, witness);
-    let order = order_obeyed(kept, bookmarks, obeys, line);
-    answer_order(alloc, kept, seat, witness, bookmarks, order, line)
+    match order_obeyed(alloc, kept, bookmarks, obeys, line) {
+        Ok(order) => answer_order(alloc, kept, seat, witness, bookmarks, order, line),
+        Err(_) => refuse_held(kept, seat, witness, Refusal::NoMemory),
+    }
 }
 
 // Compares the chronicle with the seat, and has the witness see all calls.
@@ -90,20 +93,23 @@ fn see_all<L: Heap>(kept: &mut Kept<L>, seat: &mut Seat<L>, witness: &mut Witnes
     kept.show(witness);
 }
 
-// Returns what a line asks to be done, if `obeys` says that it may ask that.
+// Returns what a line asks to be done, if `obeys` says that it may ask that. Fails if an allocation for a class fails.
 fn order_obeyed<L: Heap>(
+    alloc: Global,
     kept: &Kept<L>,
     bookmarks: &Bookmarks,
     obeys: bool,
     line: &[u8],
-) -> Option<Order>
-    ensures { result
-        ≡ order_obeyed obeys bookmarks.now kept.now.machine.trail.current line.now }
+) -> Result<Option<Order>, AllocError>
+    ensures { MatchResult result
+        (λ order. order ≡ order_obeyed obeys bookmarks.now kept.now.machine.trail.current line.now)
+        (λ _. MayTakeMemory
+        (order_obeyed obeys bookmarks.now kept.now.machine.trail.current line.now)) }
 {
     if obeys {
-        order_in(bookmarks, kept.machine().world(), line)
+        order_in(alloc, bookmarks, kept.machine().world(), line)
     } else {
-        None
+        Ok(None)
     }
 }
 
@@ -130,6 +136,7 @@ fn answer_order<L: Heap>(
 }
 
 // Does what a line asks to be done for one who holds the lock, and answers it.
+#[tactic(auto, using(crate::proofs::HeldSteps::taken_under_lock))]
 fn do_held<L: Heap>(
     alloc: Global,
     kept: &mut Kept<L>,

@@ -179,8 +179,8 @@ impl<'a, L: Heap, R: Wait> Joined<'a, L, R> {
         retain_open(kept.machine(), pins);
     }
 
-    // Returns the place on whose state the line `open @WORD` opens a pin.
-    pub(crate) fn place_opened(&self, line: &[u8]) -> Option<u64>
+    // Returns the place, or None for the current one, on whose state the lines `open` and `open @WORD` open a pin.
+    pub(crate) fn place_opened(&self, line: &[u8]) -> Option<Option<u64>>
         ensures { result ≡ place_opened self.now.bookmarks line.now }
     {
         place_opened(&self.bookmarks, line)

@@ -205,7 +205,7 @@ impl<'a, L: Heap, R: Wait> StayingSeat<'a, L, R> {
         ensures questions { self.new.questions ≡ self.old.questions }
     {
         match self.joined.place_opened(line) {
-            Some(place) => LineAnswer::Known(self.open(Some(place))),
+            Some(place) => LineAnswer::Known(self.open(place)),
             None => self.ask(alloc, line, true),
         }
     }

@@ -2,7 +2,6 @@
 use crate::picture::cells::{LEFT, STEP, add_path_begin, add_path_end, middle_of};
 use crate::picture::rows::Rows;
 use crate::picture::text::{add, add_next_stroke, add_number, add_text_at};
-use heap_region::Regions;
 use std::alloc::AllocError;
 
 // The number of bars in a line, the distance of two, and the length of that of a full region.
@@ -25,18 +24,14 @@ pub(crate) fn bar_lines(others: u64) -> u64 {
 }
 
 // Appends the bars of the regions that have no row, if there are such regions.
-pub(crate) fn add_bars(
-    text: &mut Vec<u8>,
-    regions: &Regions,
-    rows: &Rows,
-) -> Result<(), AllocError> {
+pub(crate) fn add_bars(text: &mut Vec<u8>, count: u64, rows: &Rows) -> Result<(), AllocError> {
     if rows.others() == 0 {
         return Ok(());
     }
     add_bars_title(text, rows)?;
-    add_bar_labels(text, regions, rows)?;
+    add_bar_labels(text, count, rows)?;
     add_path_begin(text, b"#9498a0", b"9")?;
-    add_bar_strokes(text, regions, rows)?;
+    add_bar_strokes(text, count, rows)?;
     add_path_end(text)
 }
 
@@ -51,9 +46,9 @@ fn add_bars_title(text: &mut Vec<u8>, rows: &Rows) -> Result<(), AllocError> {
 }
 
 // Appends the number of the first region of each line of bars.
-fn add_bar_labels(text: &mut Vec<u8>, regions: &Regions, rows: &Rows) -> Result<(), AllocError> {
+fn add_bar_labels(text: &mut Vec<u8>, count: u64, rows: &Rows) -> Result<(), AllocError> {
     let mut place: u64 = 0;
-    for region in 0..regions.count() {
+    for region in 0..count {
         if rows.row(region).is_none() {
             if place % LINE_BARS == 0 {
                 let line = rows.count().saturating_add(1 + place / LINE_BARS);
@@ -68,10 +63,10 @@ fn add_bar_labels(text: &mut Vec<u8>, regions: &Regions, rows: &Rows) -> Result<
 }
 
 // Appends the strokes of the bars.
-fn add_bar_strokes(text: &mut Vec<u8>, regions: &Regions, rows: &Rows) -> Result<(), AllocError> {
+fn add_bar_strokes(text: &mut Vec<u8>, count: u64, rows: &Rows) -> Result<(), AllocError> {
     let mut place: u64 = 0;
     let mut pen = None;
-    for region in 0..regions.count() {
+    for region in 0..count {
         if rows.row(region).is_none() {
             if place % LINE_BARS == 0 {
                 pen = None;

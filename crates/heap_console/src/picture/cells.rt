@@ -1,9 +1,8 @@
 //! The cells of regions, as strokes of a picture: a row for each region, and a pixel for each word.
-use crate::picture::colors::Palette;
+use crate::picture::map::{CellMap, SeenObject, cells_each, place_of};
 use crate::picture::rows::{REGION_WORDS, Rows, regions_for};
 use crate::picture::text::{add, add_next_stroke, add_stroke};
-use heap_class::ObjRef;
-use heap_region::Regions;
+use heap_questions::CellState;
 use std::alloc::AllocError;
 
 // The left end of each row, and the height of the first row's middle.
@@ -15,7 +14,7 @@ const TOP: u64 = 40;
 pub(crate) const STEP: u64 = 12;
 
 // The cells that a stroke is for.
-#[derive(Clone, Copy, PartialEq, Eq)]
+#[derive(Clone, Copy)]
 pub(crate) enum CellSort {
     // The free cells.
     Free,
@@ -25,20 +24,22 @@ pub(crate) enum CellSort {
     Dead,
     // The cells whose objects are marked.
     Marked,
+    // The cells whose objects are gray.
+    Gray,
 }
 
 impl CellSort {
-    // Tells whether a cell is of this sort.
-    fn has(self, regions: &Regions, palette: &Palette, at: ObjRef) -> bool {
-        if !regions.has_object(at) {
-            return self == CellSort::Free;
-        }
-        let (live, mark) = regions.bits(at);
+    // Tells whether a cell with this object is of this sort.
+    fn has(self, object: Option<SeenObject>) -> bool {
+        let Some(SeenObject { color, state }) = object else {
+            return matches!(self, CellSort::Free);
+        };
         match self {
             CellSort::Free => false,
-            CellSort::Colored(color) => palette.color_of(regions.kind(at)) == color,
-            CellSort::Dead => !live,
-            CellSort::Marked => live && mark,
+            CellSort::Colored(shade) => color == shade,
+            CellSort::Dead => matches!(state, CellState::Dead),
+            CellSort::Marked => matches!(state, CellState::Marked | CellState::Gray),
+            CellSort::Gray => matches!(state, CellState::Gray),
         }
     }
 
@@ -47,6 +48,7 @@ impl CellSort {
         match self {
             CellSort::Free | CellSort::Colored(_) | CellSort::Dead => Level::Middle,
             CellSort::Marked => Level::Below,
+            CellSort::Gray => Level::Above,
         }
     }
 }
@@ -77,41 +79,33 @@ pub(crate) fn middle_of(row: u64) -> u64 {
 }
 
 // Appends the strokes of all cells that are of this sort, of the regions that have a row.
-pub(crate) fn add_all_cells(
+pub(crate) fn add_all_cells<C: CellMap>(
     text: &mut Vec<u8>,
-    regions: &Regions,
+    cells: &C,
     rows: &Rows,
-    palette: &Palette,
     sort: CellSort,
 ) -> Result<(), AllocError> {
-    for region in 0..regions.count() {
-        let size = regions.cell_size(region).unwrap_or(0);
+    for region in 0..cells.count() {
+        let size = cells.cell_size(region).unwrap_or(0);
         if size > REGION_WORDS {
-            add_large(text, regions, rows, palette, sort, region)?;
+            add_large(text, cells, rows, sort, region, size)?;
         } else if let Some(row) = rows.row(region) {
-            add_cells(text, regions, palette, sort, region, row)?;
+            add_cells(text, cells, sort, region, size, row)?;
         }
     }
     Ok(())
 }
 
-// Appends the strokes of a cell that takes several regions from this one on, if it is of this sort.
-fn add_large(
+// Appends the strokes of a cell of this size, which takes several regions from this one on, if it is of this sort.
+fn add_large<C: CellMap>(
     text: &mut Vec<u8>,
-    regions: &Regions,
+    cells: &C,
     rows: &Rows,
-    palette: &Palette,
     sort: CellSort,
     region: u64,
+    size: u64,
 ) -> Result<(), AllocError> {
-    let Some(size) = regions.cell_size(region) else {
-        return Ok(());
-    };
-    let at = ObjRef {
-        region: regions.region_number(region),
-        cell: 0,
-    };
-    if sort.has(regions, palette, at) {
+    if sort.has(cells.object(place_of(region, 0))) {
         add_whole_rows(text, rows, region, size, sort.level())?;
     }
     Ok(())
@@ -133,65 +127,24 @@ fn add_whole_rows(
     Ok(())
 }
 
-// Appends the strokes of a region's cells that are of this sort, in this row.
-fn add_cells(
+// Appends the strokes of a region's cells, of this size, that are of this sort, in this row.
+fn add_cells<C: CellMap>(
     text: &mut Vec<u8>,
-    regions: &Regions,
-    palette: &Palette,
+    cells: &C,
     sort: CellSort,
     region: u64,
+    size: u64,
     row: u64,
 ) -> Result<(), AllocError> {
-    let Some(size) = regions.cell_size(region) else {
-        return Ok(());
-    };
     let y = sort.level().height_in(row);
-    let number = regions.region_number(region);
     let mut pen = None;
-    for cell in 0..regions.cell_count(region) {
-        let at = ObjRef {
-            region: number,
-            cell,
-        };
-        if sort.has(regions, palette, at) {
-            let x = LEFT.saturating_add(size.saturating_mul(cell as u64));
+    for cell in 0..cells_each(size) {
+        if sort.has(cells.object(place_of(region, cell))) {
+            let x = LEFT.saturating_add(size.saturating_mul(cell));
             pen = Some(add_next_stroke(text, pen, x, y, size.saturating_sub(1))?);
         }
     }
     Ok(())
-}
-
-// Appends the strokes of the cells whose objects are gray, of the regions that have a row.
-pub(crate) fn add_gray(
-    text: &mut Vec<u8>,
-    regions: &Regions,
-    rows: &Rows,
-    gray: &[u64],
-) -> Result<(), AllocError> {
-    for id in gray {
-        if let Some(at) = regions.find(*id) {
-            let region = at.region as u64;
-            let size = regions.cell_size(region).unwrap_or(0);
-            if size > REGION_WORDS {
-                add_whole_rows(text, rows, region, size, Level::Above)?;
-            } else if let Some(row) = rows.row(region) {
-                add_gray_cell(text, regions, at, row)?;
-            }
-        }
-    }
-    Ok(())
-}
-
-// Appends the stroke of a gray object, in this row.
-fn add_gray_cell(
-    text: &mut Vec<u8>,
-    regions: &Regions,
-    at: ObjRef,
-    row: u64,
-) -> Result<(), AllocError> {
-    let size = regions.cell_size(at.region as u64).unwrap_or(1);
-    let x = LEFT.saturating_add(size.saturating_mul(at.cell as u64));
-    add_stroke(text, x, Level::Above.height_in(row), size.saturating_sub(1))
 }
 
 // Appends the beginning of a path in this colour and width.

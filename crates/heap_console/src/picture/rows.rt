@@ -2,8 +2,8 @@
 ghost use Rattle.std.specs.Prelude.{◌≡◌};
 ghost use Rattle.heap_region.specs.Regions.{regions_for};
 
-use heap_class::ObjRef;
-use heap_region::Regions;
+use crate::picture::map::{CellMap, cells_each, place_of};
+use heap_questions::CellState;
 use std::alloc::{AllocError, Global};
 
 // A heap of at most this many regions is shown whole.
@@ -15,12 +15,10 @@ const ROW_LIMIT: u64 = 1_024;
 // The most bytes that the rows of such a picture take. The bars of all other regions take 0.7 MB at most.
 const TEXT_LIMIT: u64 = 1_200_000;
 
-// The most bytes that a row takes beside its cells, that a cell takes, and that the stroke of a gray object takes.
+// The most bytes that a row takes beside its cells, and that a stroke of a cell takes.
 const ROW_TEXT: u64 = 128;
 
 const CELL_TEXT: u64 = 8;
-
-const GRAY_TEXT: u64 = 16;
 
 // The number of words of a region.
 pub(crate) const REGION_WORDS: u64 = 1_024;
@@ -40,58 +38,47 @@ struct Contents {
     text: u64,
 }
 
-// Returns what there is in each region, without the strokes of gray objects.
-fn all_contents(alloc: Global, regions: &Regions) -> Result<Vec<Contents>, AllocError> {
+// Returns what there is in each region.
+fn all_contents<C: CellMap>(alloc: Global, cells: &C) -> Result<Vec<Contents>, AllocError> {
     let mut contents = Vec::new(alloc);
-    for region in 0..regions.count() {
-        contents.push(contents_of(regions, region))?;
+    for region in 0..cells.count() {
+        contents.push(contents_of(cells, region))?;
     }
     Ok(contents)
 }
 
-// Returns what there is in a region, without the strokes of gray objects.
-fn contents_of(regions: &Regions, region: u64) -> Contents {
+// Returns what there is in a region.
+fn contents_of<C: CellMap>(cells: &C, region: u64) -> Contents {
     let mut contents = Contents {
         words: 0,
         text: ROW_TEXT,
     };
-    let Some(size) = regions.cell_size(region) else {
+    let Some(size) = cells.cell_size(region) else {
         return contents;
     };
-    let number = regions.region_number(region);
-    for cell in 0..regions.cell_count(region) {
-        let at = ObjRef {
-            region: number,
-            cell,
-        };
+    for cell in 0..cells_each(size).max(1) {
         contents.text = contents.text.saturating_add(CELL_TEXT);
-        if regions.has_object(at) {
+        if let Some(object) = cells.object(place_of(region, cell)) {
             contents.words = contents.words.saturating_add(size.min(REGION_WORDS));
-            let (live, mark) = regions.bits(at);
-            if mark || !live {
-                contents.text = contents.text.saturating_add(CELL_TEXT);
-            }
+            contents.text = contents.text.saturating_add(text_of(object.state));
         }
     }
     contents
 }
 
-// Counts the strokes of gray objects.
-fn count_gray(contents: &mut [Contents], regions: &Regions, gray: &[u64]) {
-    for id in gray {
-        if let Some(at) = regions.find(*id) {
-            let region = at.region as usize;
-            if region < contents.len() {
-                contents[region].text = contents[region].text.saturating_add(GRAY_TEXT);
-            }
-        }
+// Returns the most bytes that an object's strokes take beside that of its cell.
+fn text_of(state: CellState) -> u64 {
+    match state {
+        CellState::Free | CellState::Live => 0,
+        CellState::Marked | CellState::Dead => CELL_TEXT,
+        CellState::Gray => CELL_TEXT + CELL_TEXT,
     }
 }
 
 // Gives each region that an object takes with others the contents of the first of them.
-fn share_contents(contents: &mut [Contents], regions: &Regions) {
-    for region in 0..regions.count() {
-        let size = regions.cell_size(region).unwrap_or(0);
+fn share_contents<C: CellMap>(contents: &mut [Contents], cells: &C) {
+    for region in 0..cells.count() {
+        let size = cells.cell_size(region).unwrap_or(0);
         if size > REGION_WORDS {
             copy_contents(contents, region as usize, regions_for(size) as usize);
         }
@@ -154,14 +141,13 @@ pub(crate) struct Rows {
 impl Rows {
     // Gives rows to regions, in the order of their numbers: to all of a small heap, and of a larger one to those with the most
     // bytes. Fails if an allocation fails.
-    pub(crate) fn new(alloc: Global, regions: &Regions, gray: &[u64]) -> Result<Rows, AllocError> {
-        let is_whole = regions.count() <= WHOLE_LIMIT;
-        let mut marked = vec![in alloc; is_whole; regions.count() as usize]?;
+    pub(crate) fn new<C: CellMap>(alloc: Global, cells: &C) -> Result<Rows, AllocError> {
+        let is_whole = cells.count() <= WHOLE_LIMIT;
+        let mut marked = vec![in alloc; is_whole; cells.count() as usize]?;
         let mut contents = Vec::new(alloc);
         if !is_whole {
-            contents = all_contents(alloc, regions)?;
-            count_gray(contents.as_mut_slice(), regions, gray);
-            share_contents(contents.as_mut_slice(), regions);
+            contents = all_contents(alloc, cells)?;
+            share_contents(contents.as_mut_slice(), cells);
             let keys = keys_of(alloc, contents.as_slice())?;
             mark_largest(marked.as_mut_slice(), contents.as_slice(), keys.as_slice());
         }

@@ -8,8 +8,7 @@ ghost use Rattle.heap_trail.specs.Trail.{retained};
 ghost use Rattle.heap_questions.specs.Lives.{AreLives, HasId, IsLifeIf, before_lives, born_ago, stands_in, stood_in, swept_ago};
 
 use crate::past::losses::{Loss, loss_of};
-use crate::past::standing::{cell_by, size_before, stood_before};
-use crate::past::steps::size_at;
+use crate::past::standing::{cell_by, size_at, size_before, stood_before};
 use crate::past::trail::PastTrail;
 use heap_class::{ObjKind, ObjRef, Refusal};
 use heap_region::{OBJECT_BASE, REGION_WORDS};

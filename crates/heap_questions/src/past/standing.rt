@@ -3,17 +3,18 @@ ghost use Rattle.std.specs.Prelude.{◌≡◌, ◌≤◌, ◌<◌, ◌==◌, ℕ
 ghost use Rattle.std.specs.List.{list_any};
 ghost use Rattle.heap_class.specs.declared.ObjRef.{ObjRef};
 ghost use Rattle.heap_region.specs.Limits.{heap_words};
-ghost use Rattle.heap_region.specs.Regions.{UsedRegion, object_at, ref_of};
+ghost use Rattle.heap_region.specs.Regions.{UsedRegion, object_at, ref_of, used_at};
 ghost use Rattle.heap_step.specs.declared.Undo.TheVariants.{Reclaim};
 ghost use Rattle.heap_trail.specs.Trail.{retained, state_ago};
-ghost use Rattle.heap_questions.specs.PastTrails.{HasCellSize, IsCellOf, size_before, stood_before};
+ghost use Rattle.heap_world.specs.Legal.{IsLegal};
+ghost use Rattle.heap_questions.specs.PastTrails.{HasCellSize, IsCellOf, size_before, stood_before, storage_cell_size};
 
 use crate::past::changes::makes;
-use crate::past::steps::{size_at, size_of};
 use heap_class::ObjRef;
-use heap_region::{OBJECT_BASE, ObjectCopy, REGION_WORDS};
+use heap_region::{OBJECT_BASE, ObjectCopy, REGION_WORDS, RegionView};
 use heap_step::Undo;
 use heap_trail::Machine;
+use heap_world::World;
 
 // Tells whether an object stood at a place in the state of `ago` steps ago.
 pub(crate) fn stood_ago(machine: &Machine, ago: u64, at: ObjRef) -> bool
@@ -91,6 +92,29 @@ fn cell_size_ago(machine: &Machine, ago: u64, region: u64) -> u64
         size = size_before(machine.record_ago(n), region, size);
     }
     size
+}
+
+// Returns the size of the cells of a region, or 0 if it is empty.
+#[tactic(auto, using(crate::proofs::Sizes::whole_size, crate::proofs::Sizes::table_of))]
+pub(crate) fn size_at(world: &World, region: u64) -> u64
+    requires { IsLegal world.now }
+    ensures value { (u : UsedRegion) → used_at world.now.regions region ≡ Some u
+        → result ≡ u.cell_size }
+    ensures limit { result ≤ heap_words }
+{
+    match world.regions().region(region) {
+        Some(storage) => size_of(&storage),
+        None => 0,
+    }
+}
+
+// Returns the size of a region's cells.
+fn size_of(storage: &RegionView<'_>) -> u64
+    requires { 0 < length storage.now.cells }
+    ensures value { result ≡ storage_cell_size storage.now }
+    ensures limit { result ≤ heap_words }
+{
+    storage.word_count() / storage.cells()
 }
 
 // Returns the cell of this size that an id names, of a region that has the id's word, or None if the id is that of no such cell.

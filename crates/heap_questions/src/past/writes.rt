@@ -163,7 +163,7 @@ fn changing_write(
 }
 
 // Returns the id of the object at `at`, as a pin shows it.
-fn id_at(pin: &Pin, world: &World, at: ObjRef) -> u64
+pub(crate) fn id_at(pin: &Pin, world: &World, at: ObjRef) -> u64
     requires { SeesObject pin.now world.now at }
     ensures { result ≡ (seen_object pin.now world.now at).id }
 {

@@ -26,3 +26,9 @@ returns-in-Some-clause-ids g c =
     let r = c.in-Some.register in
     let free = subst (λ (registers : List ℕ). IsFirstFree registers earlier c.args.id r) c.registers.ensures c.in-Some.ensures.some in
     ids_told image (record { register = r; start = c.args.id; hops = c.new-hops.result }) r c.args.id [] refl refl c.new-hops.ensures.items free.names tt
+
+pub path_by_distance-requires-clause-there : goal.path_by_distance-requires-clause-there
+path_by_distance-requires-clause-there g c = object_found (g.V.View.image c.args.view.now) (g.V.View.places c.args.view.now) c.args.nodes.now c.args.id c.args.goal c.requires.nodes c.requires.goal
+
+pub path_by_distance-requires-clause-distances : goal.path_by_distance-requires-clause-distances
+path_by_distance-requires-clause-distances g c = c.requires.exact c.if-exact.true

@@ -1,11 +1,14 @@
-use Rattle.std.proofs.Common.{◌≡◌, ℕ, ◌+◌, ◌-◌, ◌<◌, List, ◌∷◌, ◌++◌, [], length, sym, ap, ◌∙◌, subst, arith}
-use Rattle.std.specs.Prelude.{Option, min, option_map, unwrap_or}
+use Rattle.std.proofs.Common.{◌≡◌, ℕ, ◌+◌, ◌-◌, ◌<◌, List, ◌∷◌, ◌++◌, [], sym, ap, ◌∙◌, subst, arith}
+use Rattle.std.specs.Prelude.{min}
 use Rattle.heap_trail.specs.Trail.{retained, state_ago}
 use Rattle.heap_trail.proofs.RetainedRecords.{has_record}
 use Rattle.heap_questions.specs.declared.past.steps.PastStep.{PastStep}
-use Rattle.heap_questions.specs.Newest.{AreCellSizes, event_with, id_by, past_step, written_at}
+use Rattle.heap_questions.specs.Newest.{event_by, event_to, past_step}
+use Rattle.heap_questions.specs.PastTrails.{IsPinAgo}
+use Rattle.heap_questions.specs.SlotWrites.{seen_object}
 use Rattle.heap_questions.proofs.NewestSteps.{back_all, back_more, back_none}
-use Rattle.heap_questions.proofs.Sizes.{ids_are, reclaimed_within, sizes_step, written_within}
+use Rattle.heap_questions.proofs.SeenSteps.{event_seen, step_seen}
+use Rattle.heap_questions.proofs.WrittenSlots.{can_walk, shown_beside, walked_one}
 use Rattle.heap_questions.proofs.past.steps.history.Goals as goal
 
 pub loop-n-init : goal.loop-n-init
@@ -13,45 +16,44 @@ loop-n-init c =
     let t = c.args.machine.now.trail in
     let ago = c.args.ago in
     record {
-      sizes = subst (λ k. AreCellSizes (state_ago k t) c.in_ok-sizes.sizes.items) (let e : ago ≡ ago + 0 = omega arith in e) c.in_ok-sizes.ensures.sizes;
+      pin = subst (IsPinAgo c.in_ok-pin.pin t) (let e : ago ≡ ago + 0 = omega arith in e) c.in_ok-pin.ensures.shown;
       steps = c.in_ok-steps.ensures.items ∙ sym (back_none t ago);
     }
 
-pub event_by-requires-clause-within : goal.event_by-requires-clause-within
-event_by-requires-clause-within c =
+pub event_by-requires : goal.event_by-requires
+event_by-requires c =
     let t = c.args.machine.now.trail in
     let n = c.args.ago + c.loop-n.n in
+    let w = c.world-world.result.now in
     let left = c.record_ago-left.result.now in
     let r = has_record c.args.machine.now.keep t n left c.place-place.ensures.trail c.record_ago-left.ensures in
-    λ at h. subst (λ (xs : List ℕ). at.region < length xs) (sym c.as_slice.ensures.value)
-    (written_within left r.0 (state_ago (n + 1) t) (state_ago n t) c.loop-n.sizes.items r.1 c.loop-n.invariant.sizes at h)
+    step_seen t n left w c.loop-n.pin (shown_beside t n w c.loop-n.pin c.world-world.ensures.value c.loop-n.invariant.pin) r
 
-pub undo_size-requires : goal.undo_size-requires
-undo_size-requires c =
+pub walk_back-requires : goal.walk_back-requires
+walk_back-requires c =
     let t = c.args.machine.now.trail in
     let n = c.args.ago + c.loop-n.n in
     let left = c.record_ago-left.result.now in
     let r = has_record c.args.machine.now.keep t n left c.place-place.ensures.trail c.record_ago-left.ensures in
-    reclaimed_within left r.0 (state_ago (n + 1) t) (state_ago n t) c.loop-n.sizes.items r.1 c.loop-n.invariant.sizes
+    can_walk t n left c.world-world.result.now c.loop-n.pin c.world-world.ensures.value c.loop-n.invariant.pin r
 
 pub loop-n-preserved : goal.loop-n-preserved
 loop-n-preserved c =
     let t = c.args.machine.now.trail in
-    let n = c.args.ago + c.loop-n.n in
+    let ago = c.args.ago in
+    let n = ago + c.loop-n.n in
+    let w = c.world-world.result.now in
+    let now = c.world-world.ensures.value in
     let left = c.record_ago-left.result.now in
     let r = has_record c.args.machine.now.keep t n left c.place-place.ensures.trail c.record_ago-left.ensures in
-    let sizes = c.loop-n.sizes.items in
     let i = c.loop-n.invariant in
-    let event : c.event_by.result ≡ (past_step t n left).event = c.event_by.ensures
-    ∙ ap (λ (o : Option ℕ). event_with left (unwrap_or o 0))
-    (ap (λ (xs : List ℕ). option_map (id_by xs) (written_at left)) c.as_slice.ensures.value
-    ∙ ids_are left r.0 (state_ago (n + 1) t) (state_ago n t) sizes r.1 i.sizes) in
+    let within : n < retained t = omega (arith, c.requires, c.loop-n-test.true, c.loop-n.auto.n-end) in
+    let event : c.event_by.result ≡ event_to (state_ago n t) left = c.event_by.ensures ∙ event_seen t n left w c.loop-n.pin (shown_beside t n w c.loop-n.pin now i.pin) r in
     let x : PastStep = record { place = c.place-place.result - n; event = c.event_by.result } in
     let one : x ≡ past_step t n left = λ j. record { place = c.place-place.ensures.value j - n; event = event j } in
     record {
-      sizes = subst (λ k. AreCellSizes (state_ago k t) c.undo_size.new.sizes.items) (let e : n + 1 ≡ c.args.ago + (c.loop-n.n + 1) = omega arith in e)
-          (subst (AreCellSizes (state_ago (n + 1) t)) (sym c.undo_size.ensures) (sizes_step left r.0 (state_ago (n + 1) t) (state_ago n t) sizes r.1 i.sizes));
-      steps = c.in_ok-push.ensures.items ∙ (λ j. i.steps j ++ one j ∷ []) ∙ sym (back_more t c.args.ago c.loop-n.n left c.record_ago-left.ensures);
+      pin = subst (IsPinAgo c.walk_back.new.self t) (let e : n + 1 ≡ ago + (c.loop-n.n + 1) = omega arith in e) (walked_one t n left w c.loop-n.pin c.walk_back.new.self now within i.pin r c.in_ok-walk_back.ensures.walked);
+      steps = c.in_ok-push.ensures.items ∙ (λ j. i.steps j ++ one j ∷ []) ∙ sym (back_more t ago c.loop-n.n left c.record_ago-left.ensures);
     }
 
 pub returns-clause-steps : goal.returns-clause-steps

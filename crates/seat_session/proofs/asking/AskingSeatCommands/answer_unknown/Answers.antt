@@ -11,4 +11,4 @@ returns-in-Some g c =
     let line = c.args.line.now in
     let text = reply_text c.act.result in
     subst (λ (s : Station). OpensOrAnswers config (place_opened s.bookmarks line) line s text c.act.new.self) c.self.view_is
-    (subst (λ (o : Option ℕ). OpensOrAnswers config o line c.self.inside.joined text c.act.new.self) (sym c.in-Some.is ∙ c.place_opened.ensures) (c.act.result, c.act.ensures.acts, refl))
+    (subst (λ (o : Option (Option ℕ)). OpensOrAnswers config o line c.self.inside.joined text c.act.new.self) (sym c.in-Some.is ∙ c.place_opened.ensures) (c.act.result, c.act.ensures.acts, refl))

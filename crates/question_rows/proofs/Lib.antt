@@ -17,5 +17,4 @@ pub mod LivedRows
 pub mod ToldSteps
 pub mod PinRows
 pub mod UsedRegions
-pub mod CountedRegions
 pub mod StatusRows

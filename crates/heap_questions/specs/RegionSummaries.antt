@@ -43,8 +43,8 @@ all_live s =
     }
 
 -- a region before a sweep took its n dead objects out
-abbrev pub with_dead : ℕ → RegionSummary → RegionSummary
-with_dead n s =
+abbrev pub with_dead_back : ℕ → RegionSummary → RegionSummary
+with_dead_back n s =
     record { cell_size = s.cell_size; waits = true; counts = record { live = s.counts.live; dead = n } }
 
 -- a region that a sweep took out whole, before it
@@ -63,7 +63,7 @@ summaries_before (New at fresh m r old) all =
     with_summary at.region (λ s. if fresh then None else option_map one_fewer s) all
 summaries_before (Finish log) all = map (option_map all_live) all
 summaries_before (Sweep region dead) all =
-    with_summary region (option_map (with_dead (length dead))) all
+    with_summary region (option_map (with_dead_back (length dead))) all
 summaries_before (Reclaim region storage) all =
     with_summary region (λ s. Some (taken_out storage)) all
 summaries_before left all = all

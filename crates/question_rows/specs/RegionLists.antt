@@ -40,7 +40,7 @@ abbrev pub regions_text : List Region → List ℕ
 regions_text regions =
     flat_map (region_row regions) (used_regions regions) ++ count_text (length (used_regions regions))
 
--- the lines of the regions in use in the state of so many steps ago, or why there are none
+-- the lines of the regions in use in a state some steps ago, or why there are none
 abbrev pub IsRegionsTextAgo : Trail → Result ℕ Refusal → List ℕ → Type 0
 IsRegionsTextAgo t (Ok ago) text =
     IsTextOrNoMemory (λ text. text ≡ regions_text (state_ago ago t).regions) text

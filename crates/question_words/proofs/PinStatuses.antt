@@ -21,16 +21,16 @@ IsNoneBefore pin pins i = find (λ e. e.0 == pin) (take i pins) ≡ None
 
 -- ---- the first of a number
 
-found_at : (pin : ℕ) (pins : List (ℕ × PinState)) (i : ℕ) (e : ℕ × PinState) → IsNoneBefore pin pins i → slice_get pins i ≡ Some e → (e.0 == pin) ≡ true → find (λ e. e.0 == pin) pins ≡ Some e
-found_at pin [] i e h there t = absurd (none-some e there)
-found_at pin (x ∷ xs) zero e h there t =
+pin_found_at_index : (pin : ℕ) (pins : List (ℕ × PinState)) (i : ℕ) (e : ℕ × PinState) → IsNoneBefore pin pins i → slice_get pins i ≡ Some e → (e.0 == pin) ≡ true → find (λ e. e.0 == pin) pins ≡ Some e
+pin_found_at_index pin [] i e h there t = absurd (none-some e there)
+pin_found_at_index pin (x ∷ xs) zero e h there t =
     let same : x ≡ e = same_Some x e there in
     let here : (x.0 == pin) ≡ true = ap (λ (p : ℕ × PinState). p.0 == pin) same ∙ t in
     ap (λ b. cond b (Some x) (find (λ e. e.0 == pin) xs)) here ∙ ap Some same
-found_at pin (x ∷ xs) (suc i) e h there t = elim (cases_Bool (x.0 == pin)) [
+pin_found_at_index pin (x ∷ xs) (suc i) e h there t = elim (cases_Bool (x.0 == pin)) [
   | inl y ↦ absurd (none-some x (sym h ∙ ap (λ b. cond b (Some x) (find (λ e. e.0 == pin) (take i xs))) y))
   | inr n ↦
-      let rest = found_at pin xs i e (sym (ap (λ b. cond b (Some x) (find (λ e. e.0 == pin) (take i xs))) n) ∙ h) there t in
+      let rest = pin_found_at_index pin xs i e (sym (ap (λ b. cond b (Some x) (find (λ e. e.0 == pin) (take i xs))) n) ∙ h) there t in
       ap (λ b. cond b (Some x) (find (λ e. e.0 == pin) xs)) n ∙ rest
 ]
 
@@ -67,7 +67,7 @@ pub status_found : (pins : Pins) (pin i : ℕ) (listed : ListedPin) → IsNoneBe
 unfolding pin_at
 status_found pins pin i listed none h t =
     let p = pin_listed pins.open_pins i listed h in
-    let found = found_at pin pins.open_pins i p.0 none p.1 (ap (λ n. n == pin) (number_listed p.0 listed p.2) ∙ t) in
+    let found = pin_found_at_index pin pins.open_pins i p.0 none p.1 (ap (λ n. n == pin) (number_listed p.0 listed p.2) ∙ t) in
     ap Some (sym (status_listed p.0 listed p.2)) ∙ sym (ap (λ (x : Option (ℕ × PinState)). option_map status_of (option_map (λ e. e.1) x)) found)
 
 pub one_pin_further : (pins : Pins) (pin i : ℕ) (listed : ListedPin) → IsNoneBefore pin pins.open_pins i → option_map listed_pin (slice_get pins.open_pins i) ≡ Some listed → (listed.number == pin) ≡ false

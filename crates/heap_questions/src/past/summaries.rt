@@ -6,7 +6,7 @@ ghost use Rattle.heap_region.specs.Limits.{cell_limit};
 ghost use Rattle.heap_region.specs.Regions.{UsedRegion, used_at};
 ghost use Rattle.heap_step.specs.declared.Undo.TheVariants.{Reclaim};
 ghost use Rattle.heap_trail.specs.Trail.{retained, state_ago};
-ghost use Rattle.heap_questions.specs.RegionSummaries.{HaveFew, all_live, one_fewer, summaries, summaries_before, summary_of, taken_out, with_dead};
+ghost use Rattle.heap_questions.specs.RegionSummaries.{HaveFew, all_live, one_fewer, summaries, summaries_before, summary_of, taken_out, with_dead_back};
 
 use crate::past::standing::size_of;
 use crate::region_counts::{RegionCounts, count_region};
@@ -35,6 +35,7 @@ pub fn region_summaries(
     requires { ago ≤ retained machine.now.trail }
     ensures told { IfOk result
         (λ all. all.items ≡ summaries (state_ago ago machine.now.trail).regions) }
+    ensures few { IfOk result (λ all. HaveFew all.items) }
     ensures refused { IfErr result (λ e. e ≡ NoMemory) }
 {
     // Its contract says that each retained state came from the one before it.
@@ -141,7 +142,7 @@ fn before_new(fresh: bool, now: Option<RegionSummary>) -> Option<RegionSummary>
 
 // Returns what was told of a region before a sweep took this many dead objects out.
 fn before_sweep(dead: u64, now: Option<RegionSummary>) -> Option<RegionSummary>
-    ensures { result ≡ option_map (with_dead dead) now }
+    ensures { result ≡ option_map (with_dead_back dead) now }
 {
     match now {
         Some(summary) => Some(RegionSummary {

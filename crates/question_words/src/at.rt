@@ -70,7 +70,7 @@ fn ago_of_pin(machine: &Machine, pin: u64) -> Result<u64, Refusal>
 {
     match status_of_pin(machine, pin) {
         Some(PinStatus::Kept { place, .. }) => steps_ago(machine, Some(place)),
-        Some(PinStatus::Lost { cause, .. }) => Err(Refusal::Lost(cause)),
+        Some(PinStatus::Lost { cause, .. }) => Err(Refusal::Lost { cause }),
         None => Err(Refusal::NoPin),
     }
 }

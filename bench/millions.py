@@ -163,18 +163,17 @@ class Hunt:
 
     def __init__(self, program, option, path, *words):
         words = [program, "explore", *words, option, str(path)]
-        begun = time.monotonic()
         self.ran = subprocess.Popen(words, stdin=subprocess.PIPE, stdout=subprocess.PIPE, stderr=subprocess.DEVNULL)
         self.faults = []
-        self.ask("status", 7)
-        told(f"explore {option}", begun)
+        self.ask("status", 7, f"explore {option}, its lines included")
 
     def seconds(self):
         """Returns the processor's time that the program has taken so far, that of the kernel for it included."""
         return time.clock_gettime(~self.ran.pid << 3 | 2)
 
-    def ask(self, line, wanted=None):
-        """Asks, and returns the answer's lines; `wanted` is its last line, or the number of its rows."""
+    def ask(self, line, wanted=None, name=None):
+        """Asks, and returns the answer's lines; `wanted` is its last line, or the number of its rows. Prints how long it took, by a name
+        if there is one."""
         begun = self.seconds()
         self.ran.stdin.write(line.encode() + b"\n")
         self.ran.stdin.flush()
@@ -182,7 +181,7 @@ class Hunt:
         while not lines or lines[-1].startswith("row "):
             lines.append(self.ran.stdout.readline().decode().rstrip("\n"))
         took = self.seconds() - begun
-        print(f"{line}: {took:.2f} s" + (f", more than {LONGEST}" if took > LONGEST else ""), flush=True)
+        print(f"{name or line}: {took:.2f} s" + (f", more than {LONGEST}" if took > LONGEST and not name else ""), flush=True)
         if isinstance(wanted, int):
             wanted = f"ok {wanted}"
         if wanted is not None and lines[-1] != wanted:

@@ -549,14 +549,14 @@ def wrong_sweep(program, library):
             yield f"a sweep that finds no dead object: {cycle}, {after}, {before} and {put} requests"
 
 
-# A write of what two pins show, and then which pins there are.
-LOSING = "class Node - v:long, new 0 0 0, put 0 0 0 5, open -, open 2, put 0 0 0 7, pins, dump 1, dump 2, pins"
+# Two writes, each of what a pin shows, and then which pins there are.
+LOSING = "class Node - v:long, new 0 0 0, open -, put 0 0 0 5, open -, put 0 0 0 7, pins, dump 1, dump 2, pins"
 
 
 def wrong_lost_pins(program, library):
     """Yields what `pins` answers otherwise than it may, if memory for the copies of pins is refused to a write: their places, and that they
     are lost by Memory. It must be seen for each pin."""
-    places, seen = {1: 3, 2: 2}, set()
+    places, seen = {1: 2, 2: 3}, set()
     for number in range(1, LIMIT):
         status, found, error = session([program, "explore", "--regions", "2"], library, words_of(LOSING), number)
         if not error:

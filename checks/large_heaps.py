@@ -129,7 +129,7 @@ def give(path, lines):
 
 
 class LargeHeap:
-    """A session of `explore` over a heap of so many objects: leaves and nodes, which tables of references held until they were
+    """A session of `explore` over a heap of a number of objects: leaves and nodes, which tables of references held until they were
     linked. It is killed after `limit` seconds, if these are given."""
 
     def __init__(self, program, shape, objects, folder, limit=None):

@@ -42,6 +42,8 @@ def reasons(program):
             (["serve", "--port", str(free), "--dumps", str(taken)], b"", in_use, b"listen"),
             (["serve", "--port", str(free), "--page", str(taken)], b"", in_use, b"listen"),
             (["explore", "--page", str(taken)], b"", in_use, b"listen"),
+            (["serve", "--port", str(free), "--secret", missing], b"", lacks, b"secret"),
+            (["ask", "--port", str(taken), "--secret", missing], b"", lacks, b"secret"),
         ):
             told = b"heapdbg: %s\n" % word
             why = b"heapdbg: %s\n" % reason

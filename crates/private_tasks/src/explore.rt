@@ -65,8 +65,9 @@ fn explore_on<'a, R: AllocGlobal + Clock + Eprint + Files, I: Inlet, O: Outlet>(
     let asking = run_first(rt, request, origin, is_terminal, asking)?;
     let Settings { time, wide, .. } = request.settings;
     let files = OwnFiles::new(rt, is_terminal, log);
+    let limits = session_limits(wide);
     let hinting = Hinting::new(&screen.console.hints);
-    let mut filing = Filing::new(asking, files, time, session_limits(wide), hinting);
+    let mut filing = Filing::new(asking, files, time, limits, hinting);
     let ended = serve_filing(rt.alloc(), reader, writer, &mut filing);
     outcome(ended)
 }

@@ -18,11 +18,7 @@ use std::alloc::{AllocError, Global};
 /// Returns the answer of `regions` about a retained state; a pin stands for its place. Fails with NotRetained if the state isn't
 /// retained, with NoPin if no such pin is open, with Lost and its cause if the pin is lost, and with NoMemory if an allocation
 /// fails. Looks at each cell of the current state once, and reads each record since the state that it is about once.
-pub fn regions_answer(
-    alloc: Global,
-    machine: &Machine,
-    at: At,
-) -> Result<Vec<u8>, Unanswered>
+pub fn regions_answer(alloc: Global, machine: &Machine, at: At) -> Result<Vec<u8>, Unanswered>
     ensures { IsRegionsText at machine.now (told_text result) }
 {
     let ago = ago_at(machine, at)?;

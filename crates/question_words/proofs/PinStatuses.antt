@@ -73,8 +73,7 @@ status_found pins pin i listed none h t =
 pub one_pin_further : (pins : Pins) (pin i : ℕ) (listed : ListedPin) → IsNoneBefore pin pins.open_pins i → option_map listed_pin (slice_get pins.open_pins i) ≡ Some listed → (listed.number == pin) ≡ false
     → (i < length pins.open_pins) × IsNoneBefore pin pins.open_pins (i + 1)
 one_pin_further pins pin i listed none h t =
-    let p = pin_listed pins.open_pins i listed h in
-    (
+    let p = pin_listed pins.open_pins i listed h in (
       slice_get_within pins.open_pins i p.0 p.1,
       subst (IsNoneBefore pin pins.open_pins) (sym (add-one i)) (none_further pin pins.open_pins i p.0 none p.1 (ap (λ n. n == pin) (number_listed p.0 listed p.2) ∙ t)),
     )

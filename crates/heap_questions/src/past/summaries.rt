@@ -48,10 +48,7 @@ pub fn region_summaries(
 }
 
 // Returns what is told of each region. Fails with NoMemory.
-fn summaries_now(
-    alloc: Global,
-    regions: &Regions,
-) -> Result<Vec<Option<RegionSummary>>, Refusal>
+fn summaries_now(alloc: Global, regions: &Regions) -> Result<Vec<Option<RegionSummary>>, Refusal>
     ensures told { IfOk result (λ all. all.items ≡ summaries regions.now.regions) }
     ensures refused { IfErr result (λ e. e ≡ NoMemory) }
 {

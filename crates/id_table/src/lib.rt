@@ -3,5 +3,7 @@
 
 mod probing;
 mod table;
+#[cfg(test)]
+mod tests;
 
 pub use table::IdTable;

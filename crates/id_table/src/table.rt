@@ -1,5 +1,5 @@
 //! The table.
-ghost use Rattle.std.specs.Prelude.{◌≡◌, ◌==◌, ◌<◌, ◌^◌, ◌++◌, ◌∷◌, [], nat_eq, not, length, position, false, if◌then◌else◌, IfOk, OnOk, OnErr};
+ghost use Rattle.std.specs.Prelude.{◌≡◌, ◌==◌, ◌<◌, ◌^◌, ◌++◌, ◌∷◌, [], nat_eq, not, length, position, true, false, if◌then◌else◌, IfOk, IfSome, OnOk, OnErr};
 ghost use Rattle.std.specs.List.{list_any};
 ghost use Rattle.std.specs.Option.{option_map_or};
 
@@ -48,7 +48,8 @@ impl IdTable {
 
     /// Returns the place of an identifier among all, or None if it isn't there.
     pub fn index_of(&self, id: u64) -> Option<usize>
-        ensures { result ≡ position (nat_eq id) self.now.keys }
+        ensures place { result ≡ position (nat_eq id) self.now.keys }
+        ensures within { IfSome result (λ i. i < length self.now.keys) }
     {
         match probe(&self.slots, &self.ids, id) {
             Sought::Found(i) => Some(i),
@@ -66,8 +67,9 @@ impl IdTable {
 
     /// Tells whether this is the place of an identifier. Looks at one identifier only.
     pub fn is_at(&self, i: usize, id: u64) -> bool
-        ensures { result
+        ensures value { result
             ≡ option_map_or (λ k. k == i) (position (nat_eq id) self.now.keys) false }
+        ensures within { result ≡ true → i < length self.now.keys }
     {
         i < self.ids.len() && self.ids[i] == id
     }
@@ -91,7 +93,7 @@ impl IdTable {
 
     /// Gives back the memory of slots beyond five for four identifiers. Fails if an allocation fails, and changes nothing then.
     pub fn fit(&mut self) -> Result<(), AllocError>
-        ensures { self.new.keys ≡ self.old.keys }
+        ensures { self.new ≡ self.old }
     {
         let count = self.ids.len();
         self.set_size(count + count / 4 + 1)
@@ -99,7 +101,7 @@ impl IdTable {
 
     // Makes this many slots in place of those that there are.
     fn set_size(&mut self, size: usize) -> Result<(), AllocError>
-        ensures { self.new.keys ≡ self.old.keys }
+        ensures { self.new ≡ self.old }
     {
         let alloc = *self.ids.allocator();
         self.slots = slots_of(alloc, &self.ids, size)?;

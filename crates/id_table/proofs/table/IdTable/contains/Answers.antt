@@ -4,4 +4,4 @@ use Rattle.id_table.proofs.Places.{found_if_any}
 use Rattle.id_table.proofs.table.IdTable.contains.Goals as goal
 
 pub returns : goal.returns
-returns c = c.is_some.ensures ∙ (ap is_some c.index_of.ensures ∙ found_if_any (nat_eq c.args.id) c.args.self.now.keys)
+returns c = c.is_some.ensures ∙ (ap is_some c.index_of.ensures.place ∙ found_if_any (nat_eq c.args.id) c.args.self.now.keys)

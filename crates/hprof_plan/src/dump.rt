@@ -187,11 +187,7 @@ fn note_array_class(array_classes: &mut IndexSet<u64>, item: Item<'_>) -> Result
 }
 
 // Notes the object in an item. Counts it, if another object has its id.
-fn note_object(
-    objects: &mut IdTable,
-    again: &mut u64,
-    item: Item<'_>,
-) -> Result<(), AllocError>
+fn note_object(objects: &mut IdTable, again: &mut u64, item: Item<'_>) -> Result<(), AllocError>
     requires { again.old + 1 < 2 ^ 64 }
     ensures objects { OnOk result
         (objects.new.keys

@@ -31,23 +31,23 @@ module _ (p : ℕ → Bool) (xs : List ℕ) where
       ap (λ (j : ℕ). cond (nat_lt j (length xs)) (Some j) None) at ∙ ap (λ (b : Bool). cond b (Some (length xs)) None) (le-ltb (length xs) (length xs) (omega arith))
 
 -- the place of a number in a list and in one that begins with it
-pub stays_found : (p : ℕ → Bool) (xs : List ℕ) (y i : ℕ) → position p xs ≡ Some i → position p (xs ++ y ∷ []) ≡ Some i
-stays_found p xs y i at =
+pub found_with_one_more : (p : ℕ → Bool) (xs : List ℕ) (y i : ℕ) → position p xs ≡ Some i → position p (xs ++ y ∷ []) ≡ Some i
+found_with_one_more p xs y i at =
     let h = position-Some p xs i 0 at in
     first_found p (xs ++ y ∷ []) i (omega (arith, h.0, length-append xs (y ∷ [])))
     (λ k lt. ap p (get_or_append_left xs (y ∷ []) 0 k (omega (arith, lt, h.0))) ∙ h.2 k lt)
     (ap p (get_or_append_left xs (y ∷ []) 0 i h.0) ∙ h.1)
 
-last_is : (xs : List ℕ) (y : ℕ) → get_or (xs ++ y ∷ []) (length xs) 0 ≡ y
-last_is [] y = refl
-last_is (x ∷ xs) y = last_is xs y
+pub last_number_is : (xs : List ℕ) (y : ℕ) → get_or (xs ++ y ∷ []) (length xs) 0 ≡ y
+last_number_is [] y = refl
+last_number_is (x ∷ xs) y = last_number_is xs y
 
 -- a new number is found behind the others
 pub new_is_found : (xs : List ℕ) (y : ℕ) → position (nat_eq y) xs ≡ None → position (nat_eq y) (xs ++ y ∷ []) ≡ Some (length xs)
 new_is_found xs y none =
     first_found (nat_eq y) (xs ++ y ∷ []) (length xs) (omega (arith, length-append xs (y ∷ [])))
     (λ k lt. ap (nat_eq y) (get_or_append_left xs (y ∷ []) 0 k lt) ∙ none_passes (nat_eq y) xs none k lt)
-    (ap (nat_eq y) (last_is xs y) ∙ eq-eqb y y refl)
+    (ap (nat_eq y) (last_number_is xs y) ∙ eq-eqb y y refl)
 
 -- each number is found at its own place
 abbrev pub AreApart : List ℕ → Type 0
@@ -56,13 +56,13 @@ AreApart xs = (i : ℕ) → i < length xs → position (nat_eq (get_or xs i 0)) 
 pub apart_and_one : (xs : List ℕ) (y : ℕ) → AreApart xs → position (nat_eq y) xs ≡ None → AreApart (xs ++ y ∷ [])
 apart_and_one xs y apart none i within =
     elim (cases_lt i (length xs)) [
-      | inl lt ↦ let same = get_or_append_left xs (y ∷ []) 0 i lt in ap (λ (x : ℕ). position (nat_eq x) (xs ++ y ∷ [])) same ∙ stays_found (nat_eq (get_or xs i 0)) xs y i (apart i lt)
-      | inr le ↦ let e : i ≡ length xs = omega (arith, le, within, length-append xs (y ∷ [])) in subst (λ (j : ℕ). position (nat_eq (get_or (xs ++ y ∷ []) j 0)) (xs ++ y ∷ []) ≡ Some j) (sym e) (ap (λ (x : ℕ). position (nat_eq x) (xs ++ y ∷ [])) (last_is xs y) ∙ new_is_found xs y none)
+      | inl lt ↦ let same = get_or_append_left xs (y ∷ []) 0 i lt in ap (λ (x : ℕ). position (nat_eq x) (xs ++ y ∷ [])) same ∙ found_with_one_more (nat_eq (get_or xs i 0)) xs y i (apart i lt)
+      | inr le ↦ let e : i ≡ length xs = omega (arith, le, within, length-append xs (y ∷ [])) in subst (λ (j : ℕ). position (nat_eq (get_or (xs ++ y ∷ []) j 0)) (xs ++ y ∷ []) ≡ Some j) (sym e) (ap (λ (x : ℕ). position (nat_eq x) (xs ++ y ∷ [])) (last_number_is xs y) ∙ new_is_found xs y none)
     ]
 
 -- a number at a place is found there
-pub found_at : (xs : List ℕ) (i x : ℕ) → AreApart xs → i < length xs → get_or xs i 0 ≡ x → position (nat_eq x) xs ≡ Some i
-found_at xs i x apart within is = subst (λ (y : ℕ). position (nat_eq y) xs ≡ Some i) is (apart i within)
+pub found_at_its_place : (xs : List ℕ) (i x : ℕ) → AreApart xs → i < length xs → get_or xs i 0 ≡ x → position (nat_eq x) xs ≡ Some i
+found_at_its_place xs i x apart within is = subst (λ (y : ℕ). position (nat_eq y) xs ≡ Some i) is (apart i within)
 
 -- whether a number is at a place, by one look
 pub at_place : (xs : List ℕ) (i x : ℕ) → AreApart xs → i < length xs → nat_eq (get_or xs i 0) x ≡ option_map_or (λ (k : ℕ). nat_eq k i) (position (nat_eq x) xs) false
@@ -70,7 +70,7 @@ at_place xs i x apart within = go (nat_eq (get_or xs i 0) x) refl (position (nat
   where
     go : (b : Bool) → nat_eq (get_or xs i 0) x ≡ b → (o : Option ℕ) → position (nat_eq x) xs ≡ o → b ≡ option_map_or (λ (k : ℕ). nat_eq k i) o false
     go true same o at =
-        sym (eq-eqb i i refl) ∙ ap (λ (q : Option ℕ). option_map_or (λ (k : ℕ). nat_eq k i) q false) (sym (found_at xs i x apart within (eqb-true _ _ same)) ∙ at)
+        sym (eq-eqb i i refl) ∙ ap (λ (q : Option ℕ). option_map_or (λ (k : ℕ). nat_eq k i) q false) (sym (found_at_its_place xs i x apart within (eqb-true _ _ same)) ∙ at)
     go false other None at = refl
     go false other (Some k) at = flip (nat_eq k i) refl
       where

@@ -4,25 +4,25 @@ use Rattle.std.specs.Prelude.{nat_eq, nat_lt, position, if◌then◌else◌}
 use Rattle.std.proofs.lemmas.Bool.{cases_eq, cases_lt, cases_order, eqb-true}
 use Rattle.std.proofs.lemmas.List.{get_or_append_left, get_or-set_other, get_or-set_same, length-append, length-set, set_past}
 use Rattle.std.proofs.lemmas.List.Quantifiers.{position-Some}
-use Rattle.id_table.specs.Tables.{AreTaken, ArePlaced, IsFree, IsPlaced, IsTable, home, looked_at, slot_after}
-use Rattle.id_table.proofs.Places.{AreApart, apart_and_one, found_at}
+use Rattle.id_table.specs.Tables.{AreNoneEmpty, AreNumbersPlaced, IsFree, IsNumberPlaced, IsIdTable, home, looked_at, slot_after}
+use Rattle.id_table.proofs.Places.{apart_and_one, found_at_its_place, last_number_is}
 
 -- ---- one slot after another
 
-pub first_slot : (size at : ℕ) → at < size → at ≡ slot_after size at 0
-first_slot size at h = grind arith
+pub home_is_looked_at_first : (size at : ℕ) → at < size → at ≡ slot_after size at 0
+home_is_looked_at_first size at h = grind arith
 
-pub next_slot : (size at d : ℕ) → at < size → d < size → (if nat_eq (slot_after size at d + 1) size then 0 else slot_after size at d + 1) ≡ slot_after size at (d + 1)
-next_slot size at d h k = grind arith
+pub next_slot_looked_at : (size at d : ℕ) → at < size → d < size → (if nat_eq (slot_after size at d + 1) size then 0 else slot_after size at d + 1) ≡ slot_after size at (d + 1)
+next_slot_looked_at size at d h k = grind arith
 
-pub slot_within : (size at d : ℕ) → at < size → d < size → slot_after size at d < size
-slot_within size at d h k = grind arith
+pub looked_at_within : (size at d : ℕ) → at < size → d < size → slot_after size at d < size
+looked_at_within size at d h k = grind arith
 
-pub none_taken : (slots : List ℕ) (id : ℕ) → AreTaken slots id 0
-none_taken slots id e h = λ _. omega (arith, h)
+pub none_before_first : (slots : List ℕ) (id : ℕ) → AreNoneEmpty slots id 0
+none_before_first slots id e h = λ _. omega (arith, h)
 
-pub taken_and_one : (slots : List ℕ) (id d : ℕ) → AreTaken slots id d → looked_at slots id d ≢ 0 → AreTaken slots id (d + 1)
-taken_and_one slots id d taken this e h =
+pub none_empty_and_one : (slots : List ℕ) (id d : ℕ) → AreNoneEmpty slots id d → looked_at slots id d ≢ 0 → AreNoneEmpty slots id (d + 1)
+none_empty_and_one slots id d taken this e h =
     elim (cases_lt e d) [
       | inl lt ↦ taken e lt
       | inr le ↦ subst (λ (k : ℕ). looked_at slots id k ≢ 0) (omega (arith, le, h)) this
@@ -34,31 +34,31 @@ module _ (slots : List ℕ) (at n : ℕ) where
   seen : (id d : ℕ) → looked_at (set slots at n) id d ≡ get_or (set slots at n) (slot_after (length slots) (home (length slots) id) d) 0
   seen id d = ap (λ (s : ℕ). get_or (set slots at n) (slot_after s (home s id) d) 0) (length-set slots at n)
 
-  still_taken : (k : ℕ) → at < length slots → n ≢ 0 → get_or slots k 0 ≢ 0 → get_or (set slots at n) k 0 ≢ 0
-  still_taken k inside new was =
+  still_not_empty : (k : ℕ) → at < length slots → n ≢ 0 → get_or slots k 0 ≢ 0 → get_or (set slots at n) k 0 ≢ 0
+  still_not_empty k inside new was =
       elim (cases_eq k at) [
         | inl e ↦ λ z. new (sym (get_or-set_same slots at n 0 inside) ∙ (ap (λ (j : ℕ). get_or (set slots at n) j 0) (sym e) ∙ z))
         | inr ne ↦ λ z. was (sym (get_or-set_other slots at k n 0 ne) ∙ z)
       ]
 
-  all_still_taken : (id d : ℕ) → at < length slots → n ≢ 0 → AreTaken slots id d → AreTaken (set slots at n) id d
-  all_still_taken id d inside new taken e h =
-      λ z. still_taken (slot_after (length slots) (home (length slots) id) e) inside new (taken e h) (sym (seen id e) ∙ z)
+  still_none_empty : (id d : ℕ) → at < length slots → n ≢ 0 → AreNoneEmpty slots id d → AreNoneEmpty (set slots at n) id d
+  still_none_empty id d inside new taken e h =
+      λ z. still_not_empty (slot_after (length slots) (home (length slots) id) e) inside new (taken e h) (sym (seen id e) ∙ z)
 
-  pub stays_placed : (id m : ℕ) → at < length slots → n ≢ 0 → get_or slots at 0 ≡ 0 → m ≢ 0 → IsPlaced slots id m → IsPlaced (set slots at n) id m
+  pub stays_placed : (id m : ℕ) → at < length slots → n ≢ 0 → get_or slots at 0 ≡ 0 → m ≢ 0 → IsNumberPlaced slots id m → IsNumberPlaced (set slots at n) id m
   stays_placed id m inside new empty old p = record {
     others = p.others;
     within = omega (arith, p.within, length-set slots at n);
     there = seen id p.others ∙ (get_or-set_other slots at (slot_after (length slots) (home (length slots) id) p.others) n 0 (λ e. old (sym p.there ∙ (ap (λ (j : ℕ). get_or slots j 0) e ∙ empty))) ∙ p.there);
-    taken = all_still_taken id p.others inside new p.taken;
+    taken = still_none_empty id p.others inside new p.taken;
   }
 
-  pub put_is_placed : (id : ℕ) → n ≢ 0 → IsFree slots id at → IsPlaced (set slots at n) id n
+  pub put_is_placed : (id : ℕ) → n ≢ 0 → IsFree slots id at → IsNumberPlaced (set slots at n) id n
   put_is_placed id new f = record {
     others = f.others;
     within = omega (arith, f.within, length-set slots at n);
     there = seen id f.others ∙ (ap (λ (j : ℕ). get_or (set slots at n) j 0) (sym f.place) ∙ get_or-set_same slots at n 0 f.there);
-    taken = all_still_taken id f.others f.there new f.taken;
+    taken = still_none_empty id f.others f.there new f.taken;
   }
 
   number_within : (k m : ℕ) → n ≤ m → get_or slots k 0 ≤ m → get_or (set slots at n) k 0 ≤ m
@@ -75,34 +75,30 @@ one_more_is_some : (n : ℕ) → n + 1 ≢ 0
 one_more_is_some n = λ e. omega (arith, e)
 
 -- the number of one more identifier is put into its slot
-pub placed_and_one : (slots ids : List ℕ) (n at : ℕ) → ArePlaced slots ids n → IsFree slots (get_or ids n 0) at → ArePlaced (set slots at (n + 1)) ids (n + 1)
+pub placed_and_one : (slots ids : List ℕ) (n at : ℕ) → AreNumbersPlaced slots ids n → IsFree slots (get_or ids n 0) at → AreNumbersPlaced (set slots at (n + 1)) ids (n + 1)
 placed_and_one slots ids n at are free = record {
   placed = λ i h.
       elim (cases_lt i n) [
         | inl lt ↦ stays_placed slots at (n + 1) (get_or ids i 0) (i + 1) free.there (one_more_is_some n) free.empty (one_more_is_some i) (are.placed i lt)
-        | inr le ↦ let e : n ≡ i = omega (arith, le, h) in subst (λ (j : ℕ). IsPlaced (set slots at (n + 1)) (get_or ids j 0) (j + 1)) e (put_is_placed slots at (n + 1) (get_or ids n 0) (one_more_is_some n) free)
+        | inr le ↦ let e : n ≡ i = omega (arith, le, h) in subst (λ (j : ℕ). IsNumberPlaced (set slots at (n + 1)) (get_or ids j 0) (j + 1)) e (put_is_placed slots at (n + 1) (get_or ids n 0) (one_more_is_some n) free)
       ];
   numbers = λ k. number_within slots at (n + 1) k (n + 1) (omega arith) (omega (arith, are.numbers k));
 }
 
-pub none_placed : (slots ids : List ℕ) → ((k : ℕ) → get_or slots k 0 ≡ 0) → ArePlaced slots ids 0
+pub none_placed : (slots ids : List ℕ) → ((k : ℕ) → get_or slots k 0 ≡ 0) → AreNumbersPlaced slots ids 0
 none_placed slots ids empty = record { placed = λ i h. absurd (omega (arith, h)); numbers = λ k. omega (arith, empty k) }
 
-last_is : (xs : List ℕ) (y : ℕ) → get_or (xs ++ y ∷ []) (length xs) 0 ≡ y
-last_is [] y = refl
-last_is (x ∷ xs) y = last_is xs y
-
 -- one more identifier behind the others
-pub table_and_one : (slots ids : List ℕ) (id at : ℕ) → IsTable slots ids → position (nat_eq id) ids ≡ None → IsFree slots id at → length ids + 1 < 2 ^ 32 → IsTable (set slots at (length ids + 1)) (ids ++ id ∷ [])
+pub table_and_one : (slots ids : List ℕ) (id at : ℕ) → IsIdTable slots ids → position (nat_eq id) ids ≡ None → IsFree slots id at → length ids + 1 < 2 ^ 32 → IsIdTable (set slots at (length ids + 1)) (ids ++ id ∷ [])
 table_and_one slots ids id at table none free few =
     let more = ids ++ id ∷ [] in
     let long : length more ≡ length ids + 1 = omega (arith, length-append ids (id ∷ [])) in
-    let are : ArePlaced slots more (length ids) = record {
-      placed = λ i h. subst (λ (x : ℕ). IsPlaced slots x (i + 1)) (sym (get_or_append_left ids (id ∷ []) 0 i h)) (table.placed.placed i h);
+    let are : AreNumbersPlaced slots more (length ids) = record {
+      placed = λ i h. subst (λ (x : ℕ). IsNumberPlaced slots x (i + 1)) (sym (get_or_append_left ids (id ∷ []) 0 i h)) (table.placed.placed i h);
       numbers = table.placed.numbers;
     } in
     record {
-      placed = subst (ArePlaced (set slots at (length ids + 1)) more) (sym long) (placed_and_one slots more (length ids) at are (subst (λ (x : ℕ). IsFree slots x at) (sym (last_is ids id)) free));
+      placed = subst (AreNumbersPlaced (set slots at (length ids + 1)) more) (sym long) (placed_and_one slots more (length ids) at are (subst (λ (x : ℕ). IsFree slots x at) (sym (last_number_is ids id)) free));
       few = omega (arith, few, long);
       size = omega (arith, table.size, length-set slots at (length ids + 1));
       once = apart_and_one ids id table.once none;
@@ -114,8 +110,8 @@ table_and_one slots ids id at table none free few =
 abbrev pub AreOthers : List ℕ → List ℕ → ℕ → ℕ → Type 0
 AreOthers slots ids id d = (e : ℕ) → e < d → get_or ids (looked_at slots id e - 1) 0 ≢ id
 
-pub no_others : (slots ids : List ℕ) (id : ℕ) → AreOthers slots ids id 0
-no_others slots ids id e h = λ _. omega (arith, h)
+pub no_others_before_first : (slots ids : List ℕ) (id : ℕ) → AreOthers slots ids id 0
+no_others_before_first slots ids id e h = λ _. omega (arith, h)
 
 pub others_and_one : (slots ids : List ℕ) (id d : ℕ) → AreOthers slots ids id d → get_or ids (looked_at slots id d - 1) 0 ≢ id → AreOthers slots ids id (d + 1)
 others_and_one slots ids id d others this e h =
@@ -125,10 +121,10 @@ others_and_one slots ids id d others this e h =
     ]
 
 -- an identifier isn't there if only others are in its slots up to an empty one, or in all
-pub not_there : (slots ids : List ℕ) (id d : ℕ) → IsTable slots ids → AreOthers slots ids id d → (looked_at slots id d ≡ 0) ⊎ (length slots ≤ d) → position (nat_eq id) ids ≡ None
+pub not_there : (slots ids : List ℕ) (id d : ℕ) → IsIdTable slots ids → AreOthers slots ids id d → (looked_at slots id d ≡ 0) ⊎ (length slots ≤ d) → position (nat_eq id) ids ≡ None
 not_there slots ids id d table others ends = go (position (nat_eq id) ids) refl
   where
-    clash : (i : ℕ) → i < length ids → get_or ids i 0 ≡ id → IsPlaced slots id (i + 1) → ⊥
+    clash : (i : ℕ) → i < length ids → get_or ids i 0 ≡ id → IsNumberPlaced slots id (i + 1) → ⊥
     clash i within is p =
         elim (cases_lt p.others d) [
           | inl lt ↦ others p.others lt (ap (λ (k : ℕ). get_or ids (k - 1) 0) p.there ∙ (ap (λ (k : ℕ). get_or ids k 0) (omega arith) ∙ is))
@@ -146,8 +142,8 @@ not_there slots ids id d table others ends = go (position (nat_eq id) ids) refl
     go (Some i) at =
         let h = position-Some (nat_eq id) ids i 0 at in
         let is : get_or ids i 0 ≡ id = sym (eqb-true id (get_or ids i 0) h.1) in
-        absurd (clash i h.0 is (subst (λ (x : ℕ). IsPlaced slots x (i + 1)) is (table.placed.placed i h.0)))
+        absurd (clash i h.0 is (subst (λ (x : ℕ). IsNumberPlaced slots x (i + 1)) is (table.placed.placed i h.0)))
 
 -- an identifier that is found
-pub is_there : (slots ids : List ℕ) (id k : ℕ) → IsTable slots ids → get_or slots k 0 ≢ 0 → get_or ids (get_or slots k 0 - 1) 0 ≡ id → position (nat_eq id) ids ≡ Some (get_or slots k 0 - 1)
-is_there slots ids id k table some is = found_at ids (get_or slots k 0 - 1) id table.once (omega (arith, some, table.placed.numbers k)) is
+pub looked_at_is_found : (slots ids : List ℕ) (id k : ℕ) → IsIdTable slots ids → get_or slots k 0 ≢ 0 → get_or ids (get_or slots k 0 - 1) 0 ≡ id → position (nat_eq id) ids ≡ Some (get_or slots k 0 - 1)
+looked_at_is_found slots ids id k table some is = found_at_its_place ids (get_or slots k 0 - 1) id table.once (omega (arith, some, table.placed.numbers k)) is

@@ -20,15 +20,15 @@ abbrev pub looked_at : List ℕ → ℕ → ℕ → ℕ
 looked_at slots id d = slice_index slots (slot_after (length slots) (home (length slots) id) d)
 
 -- none of the first d slots of an identifier is empty
-abbrev pub AreTaken : List ℕ → ℕ → ℕ → Type 0
-AreTaken slots id d = (e : ℕ) → e < d → looked_at slots id e ≢ 0
+abbrev pub AreNoneEmpty : List ℕ → ℕ → ℕ → Type 0
+AreNoneEmpty slots id d = (e : ℕ) → e < d → looked_at slots id e ≢ 0
 
 -- the number is in a slot of an identifier, behind slots that aren't empty
-pub record IsPlaced (slots : List ℕ) (id number : ℕ) : Type 0 where
+pub record IsNumberPlaced (slots : List ℕ) (id number : ℕ) : Type 0 where
   pub others : ℕ
   pub within : others < length slots
   pub there : looked_at slots id others ≡ number
-  pub taken : AreTaken slots id others
+  pub taken : AreNoneEmpty slots id others
 
 -- the slot is the first empty one for an identifier
 pub record IsFree (slots : List ℕ) (id at : ℕ) : Type 0 where
@@ -37,16 +37,16 @@ pub record IsFree (slots : List ℕ) (id at : ℕ) : Type 0 where
   pub there : at < length slots
   pub place : at ≡ slot_after (length slots) (home (length slots) id) others
   pub empty : slice_index slots at ≡ 0
-  pub taken : AreTaken slots id others
+  pub taken : AreNoneEmpty slots id others
 
 -- the slots have the numbers, from 1 on, of the first n of these identifiers, and no other numbers
-pub record ArePlaced (slots ids : List ℕ) (n : ℕ) : Type 0 where
-  pub placed : (i : ℕ) → i < n → IsPlaced slots (slice_index ids i) (i + 1)
+pub record AreNumbersPlaced (slots ids : List ℕ) (n : ℕ) : Type 0 where
+  pub placed : (i : ℕ) → i < n → IsNumberPlaced slots (slice_index ids i) (i + 1)
   pub numbers : (k : ℕ) → slice_index slots k ≤ n
 
 -- the slots are those of these identifiers, of which no two are the same
-pub record IsTable (slots ids : List ℕ) : Type 0 where
-  pub placed : ArePlaced slots ids (length ids)
+pub record IsIdTable (slots ids : List ℕ) : Type 0 where
+  pub placed : AreNumbersPlaced slots ids (length ids)
   pub few : length ids < 2 ^ 32
   pub size : length slots < 2 ^ 33
   pub once : (i : ℕ) → i < length ids → position (nat_eq (slice_index ids i)) ids ≡ Some i

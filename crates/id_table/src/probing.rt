@@ -1,7 +1,7 @@
 //! Slots that are looked at one after another.
 ghost use Rattle.std.specs.Prelude.{◌≡◌, ◌+◌, ◌<◌, ◌≤◌, ◌^◌, ◌++◌, ◌∷◌, [], ℕ, nat_eq, not, length, position, slice_index, Some, None, false, if◌then◌else◌, IfOk, IfSome, OnOk, OnErr};
 ghost use Rattle.std.specs.List.{list_any};
-ghost use Rattle.id_table.specs.Tables.{ArePlaced, IsFree, IsProbed, IsTable, home};
+ghost use Rattle.id_table.specs.Tables.{AreNumbersPlaced, IsFree, IsProbed, IsIdTable, home};
 
 use std::alloc::{AllocError, Global};
 
@@ -24,23 +24,23 @@ pub(crate) enum Sought {
 
 /// Looks for an identifier.
 pub(crate) fn probe(slots: &[u32], ids: &[u64], id: u64) -> Sought
-    requires { IsTable slots.now ids.now }
+    requires { IsIdTable slots.now ids.now }
     ensures { IsProbed slots.now ids.now id result }
 {
     let size = slots.len();
     if size == 0 {
         return Sought::Full;
     }
-    let mut at = home(id, size);
+    let mut slot = home(id, size);
     for _d in 0..size {
-        let number = slots[at] as usize;
+        let number = slots[slot] as usize;
         if number == 0 {
-            return Sought::Empty(at);
+            return Sought::Empty(slot);
         }
         if ids[number - 1] == id {
             return Sought::Found(number - 1);
         }
-        at = after(size, at);
+        slot = after(size, slot);
     }
     Sought::Full
 }
@@ -67,8 +67,8 @@ fn after(size: usize, at: usize) -> usize
 /// Puts an identifier behind the others, unless it is there. Tells whether it is new. Fails if an allocation fails, or if no slot is
 /// empty or there are too many others.
 pub(crate) fn add(ids: &mut Vec<u64>, slots: &mut [u32], id: u64) -> Result<bool, AllocError>
-    requires { IsTable slots.old ids.old.items }
-    ensures table { IsTable slots.new ids.new.items }
+    requires { IsIdTable slots.old ids.old.items }
+    ensures table { IsIdTable slots.new ids.new.items }
     ensures keys { OnOk result (ids.new.items
         ≡ (if list_any (nat_eq id) ids.old.items then ids.old.items
         else ids.old.items ++ id ∷ [])) }
@@ -87,10 +87,10 @@ pub(crate) fn add(ids: &mut Vec<u64>, slots: &mut [u32], id: u64) -> Result<bool
 
 // Puts an identifier that isn't there behind the others, and its number in an empty slot.
 fn put(ids: &mut Vec<u64>, slots: &mut [u32], id: u64, at: usize) -> Result<(), AllocError>
-    requires table { IsTable slots.old ids.old.items }
+    requires table { IsIdTable slots.old ids.old.items }
     requires absent { position (nat_eq id) ids.old.items ≡ None }
     requires free { IsFree slots.old id at }
-    ensures table { IsTable slots.new ids.new.items }
+    ensures table { IsIdTable slots.new ids.new.items }
     ensures keys { OnOk result (ids.new.items ≡ ids.old.items ++ id ∷ []) }
     ensures unchanged { OnErr result (ids.new.items ≡ ids.old.items) }
 {
@@ -106,7 +106,7 @@ fn put(ids: &mut Vec<u64>, slots: &mut [u32], id: u64, at: usize) -> Result<(), 
 /// Makes this many slots, for all identifiers. Fails if an allocation fails, or if they are too few.
 pub(crate) fn slots_of(alloc: Global, ids: &[u64], size: usize) -> Result<Vec<u32>, AllocError>
     requires { length ids.now < 2 ^ 32 }
-    ensures placed { IfOk result (λ s. ArePlaced s.items ids.now (length ids.now)) }
+    ensures placed { IfOk result (λ s. AreNumbersPlaced s.items ids.now (length ids.now)) }
     ensures size { IfOk result (λ s. length s.items < 2 ^ 33) }
 {
     if size > 2 * MOST {
@@ -132,12 +132,12 @@ fn empty_slot(slots: &[u32], id: u64) -> Option<usize>
     if size == 0 {
         return None;
     }
-    let mut at = home(id, size);
+    let mut slot = home(id, size);
     for _d in 0..size {
-        if slots[at] == 0 {
-            return Some(at);
+        if slots[slot] == 0 {
+            return Some(slot);
         }
-        at = after(size, at);
+        slot = after(size, slot);
     }
     None
 }

@@ -18,13 +18,13 @@ pub struct IdTable {
 }
 
 impl Model for IdTable {
-    ghost use Rattle.id_table.specs.Tables.{Ids, IsTable};
+    ghost use Rattle.id_table.specs.Tables.{Ids, IsIdTable};
 
     ghost Value = { Ids };
 
     ghost view = { λ t. record { keys = t.ids.items } };
 
-    ghost invariant = { λ t. IsTable t.slots.items t.ids.items };
+    ghost invariant = { λ t. IsIdTable t.slots.items t.ids.items };
 }
 
 impl IdTable {

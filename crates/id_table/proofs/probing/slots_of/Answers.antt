@@ -5,15 +5,15 @@ use Rattle.id_table.specs.Tables.{IsFree}
 use Rattle.id_table.proofs.Probes.{none_placed, placed_and_one}
 use Rattle.id_table.proofs.probing.slots_of.Goals as goal
 
-zeros : (n k : ℕ) → get_or {A = ℕ} (replicate n zero) k zero ≡ zero
-zeros zero k = refl
-zeros (suc n) zero = refl
-zeros (suc n) (suc k) = zeros n k
+zeros_are_zero : (n k : ℕ) → get_or {A = ℕ} (replicate n zero) k zero ≡ zero
+zeros_are_zero zero k = refl
+zeros_are_zero (suc n) zero = refl
+zeros_are_zero (suc n) (suc k) = zeros_are_zero n k
 
--- a list that is made of zeros has no other number
+-- a list that is made of zeros_are_zero has no other number
 all_empty : (size n : ℕ) (old new : List ℕ) → old ≡ [] → new ≡ take size old ++ replicate n zero → (k : ℕ) → get_or new k zero ≡ zero
 all_empty size n old new none are k =
-    ap (λ (xs : List ℕ). get_or xs k zero) (are ∙ (ap (λ (xs : List ℕ). take size xs ++ replicate n zero) none ∙ ap (λ (xs : List ℕ). xs ++ replicate n zero) (take-nil size))) ∙ zeros n k
+    ap (λ (xs : List ℕ). get_or xs k zero) (are ∙ (ap (λ (xs : List ℕ). take size xs ++ replicate n zero) none ∙ ap (λ (xs : List ℕ). xs ++ replicate n zero) (take-nil size))) ∙ zeros_are_zero n k
 
 pub loop-i-init : goal.loop-i-init
 loop-i-init c = record {

@@ -1,5 +1,5 @@
 -- Slots that tell the places of identifiers.
-use Rattle.std.specs.Prelude.{◌≡◌, ◌≢◌, ◌+◌, ◌-◌, ◌*◌, ◌/◌, ◌%◌, ◌^◌, ◌<◌, ◌≤◌, ℕ, List, nat_eq, nat_lt, length, position, slice_index, Option, Some, None, if◌then◌else◌}
+use Rattle.std.specs.Prelude.{◌≡◌, ◌≢◌, ◌+◌, ◌-◌, ◌*◌, ◌/◌, ◌%◌, ◌^◌, ◌<◌, ◌≤◌, ℕ, List, nat_eq, nat_lt, length, position, slice_index, Some, None, if◌then◌else◌}
 use Rattle.id_table.specs.declared.probing.Sought.{Sought}
 use Rattle.id_table.specs.declared.probing.Sought.TheVariants.{Found, Empty, Full}
 
@@ -9,7 +9,7 @@ pub record Ids : Type 0 where
 
 -- the first of this many slots for an identifier
 unfoldable pub home : ℕ → ℕ → ℕ
-home size id = id * 0x9e3779b97f4a7c15 % 2 ^ 64 / 2 ^ 32 % size
+home size id = id * 0x9e3779b97f4a7c15 % 2 ^ 64 / 2 ^ 32 * size / 2 ^ 32
 
 -- the slot that is d slots behind this one, where the first comes after the last
 abbrev pub slot_after : ℕ → ℕ → ℕ → ℕ
@@ -48,7 +48,7 @@ pub record AreNumbersPlaced (slots ids : List ℕ) (n : ℕ) : Type 0 where
 pub record IsIdTable (slots ids : List ℕ) : Type 0 where
   pub placed : AreNumbersPlaced slots ids (length ids)
   pub few : length ids < 2 ^ 32
-  pub size : length slots < 2 ^ 33
+  pub size : length slots < 2 ^ 32
   pub once : (i : ℕ) → i < length ids → position (nat_eq (slice_index ids i)) ids ≡ Some i
 
 -- what is found when an identifier is looked for

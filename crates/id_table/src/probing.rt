@@ -8,7 +8,7 @@ use std::alloc::{AllocError, Global};
 // A number by which those that follow one another in equal steps are spread.
 const SPREAD: u64 = 0x9e37_79b9_7f4a_7c15;
 
-// The most identifiers.
+// The most slots, and the most identifiers.
 const MOST: usize = 0xffff_ffff;
 
 /// What is found in the slots.
@@ -48,12 +48,12 @@ pub(crate) fn probe(slots: &[u32], ids: &[u64], id: u64) -> Sought
 // Returns the first slot of an identifier.
 fn home(id: u64, size: usize) -> usize
     requires some { 0 < size }
-    requires few { size < 2 ^ 33 }
+    requires few { size < 2 ^ 32 }
     ensures value { result ≡ home size id }
     ensures within { result < size }
 {
     let spread = id.wrapping_mul(SPREAD) >> 32;
-    (spread % size as u64) as usize
+    (spread * size as u64 >> 32) as usize
 }
 
 // Returns the slot after a slot.
@@ -103,13 +103,13 @@ fn put(ids: &mut Vec<u64>, slots: &mut [u32], id: u64, at: usize) -> Result<(), 
     Ok(())
 }
 
-/// Makes this many slots, for all identifiers. Fails if an allocation fails, or if they are too few.
+/// Makes this many slots, for all identifiers. Fails if an allocation fails, or if they are too few or too many.
 pub(crate) fn slots_of(alloc: Global, ids: &[u64], size: usize) -> Result<Vec<u32>, AllocError>
     requires { length ids.now < 2 ^ 32 }
     ensures placed { IfOk result (λ s. AreNumbersPlaced s.items ids.now (length ids.now)) }
-    ensures size { IfOk result (λ s. length s.items < 2 ^ 33) }
+    ensures size { IfOk result (λ s. length s.items < 2 ^ 32) }
 {
-    if size > 2 * MOST {
+    if size > MOST {
         return Err(AllocError);
     }
     let mut slots = Vec::new(alloc);
@@ -125,7 +125,7 @@ pub(crate) fn slots_of(alloc: Global, ids: &[u64], size: usize) -> Result<Vec<u3
 
 // Returns the first empty slot that an identifier may take.
 fn empty_slot(slots: &[u32], id: u64) -> Option<usize>
-    requires { length slots.now < 2 ^ 33 }
+    requires { length slots.now < 2 ^ 32 }
     ensures { IfSome result (λ at. IsFree slots.now id at) }
 {
     let size = slots.len();

@@ -1,4 +1,4 @@
-use Rattle.std.proofs.Common.{◌≡◌, ◌++◌, ◌∷◌, [], ◌∙◌, ap, sym, true, false, cond, List, Bool, ℕ, Option, Some, None, is_some}
+use Rattle.std.proofs.Common.{◌≡◌, ◌++◌, ◌∷◌, [], ◌∙◌, ap, sym, cond, List, Bool, ℕ, Option, Some, None, is_some}
 use Rattle.std.specs.Prelude.{nat_eq, not, position}
 use Rattle.std.specs.List.{list_any}
 use Rattle.id_table.proofs.Places.{found_if_any}

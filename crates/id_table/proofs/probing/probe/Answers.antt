@@ -1,4 +1,4 @@
-use Rattle.std.proofs.Common.{◌≡◌, ◌≢◌, ◌∙◌, ◌+◌, ◌-◌, ◌<◌, ap, sym, subst, inl, inr, length, get_or, arith, ℕ}
+use Rattle.std.proofs.Common.{◌≡◌, ◌∙◌, ◌+◌, ◌-◌, ◌<◌, ap, sym, subst, inl, inr, length, get_or, arith, ℕ}
 use Rattle.std.specs.Prelude.{nat_eq, if◌then◌else◌}
 use Rattle.id_table.specs.Tables.{home, looked_at}
 use Rattle.id_table.proofs.Probes.{home_is_looked_at_first, looked_at_is_found, next_slot_looked_at, no_others_before_first, none_before_first, not_there, others_and_one, looked_at_within, none_empty_and_one}

@@ -1,4 +1,4 @@
-use Rattle.std.proofs.Common.{◌≡◌, ◌+◌, ◌<◌, ◌^◌, ◌++◌, ◌∷◌, [], ◌∙◌, ap, sym, subst, length, set, List, arith, ℕ}
+use Rattle.std.proofs.Common.{◌≡◌, ◌+◌, ◌<◌, ◌^◌, ◌++◌, ◌∷◌, [], sym, subst, length, set, List, arith, ℕ}
 use Rattle.id_table.specs.Tables.{IsIdTable}
 use Rattle.id_table.proofs.Probes.{table_and_one}
 use Rattle.id_table.proofs.probing.put.Goals as goal

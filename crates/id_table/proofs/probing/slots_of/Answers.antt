@@ -1,4 +1,4 @@
-use Rattle.std.proofs.Common.{◌≡◌, ◌+◌, ◌++◌, ◌∙◌, zero, suc, ap, refl, sym, subst, length, get_or, take, replicate, arith, ℕ, List, []}
+use Rattle.std.proofs.Common.{◌≡◌, ◌+◌, ◌++◌, ◌∙◌, zero, suc, ap, refl, subst, get_or, take, replicate, arith, ℕ, List, []}
 use Rattle.std.proofs.Math.Seq.{take-nil}
 use Rattle.std.proofs.lemmas.List.{length-set}
 use Rattle.id_table.specs.Tables.{IsFree}
@@ -18,7 +18,7 @@ all_empty size n old new none are k =
 pub loop-i-init : goal.loop-i-init
 loop-i-init c = record {
   placed = none_placed c.resize.new.self.items c.args.ids.now (all_empty c.args.size _ c.new-slots.result.items c.resize.new.self.items c.new-slots.ensures.items c.in_ok-resize.ensures.items);
-  size = omega (arith, c.if-size.false, c.in_ok-resize.ensures.len, c.resize.new.self.ok);
+  size = omega (arith, c.if-size-gt-MOST.false, c.in_ok-resize.ensures.len, c.resize.new.self.ok);
 }
 
 pub loop-i-preserved : goal.loop-i-preserved

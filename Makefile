@@ -28,14 +28,16 @@ test: ## runs the gate: proofs, wrong bodies, tests and checks of the program
 	cmp examples/point.session crates/heapdbg/stdin
 	python3 checks/edits.py fit
 	python3 checks/map.py
+	python3 checks/said.py
 	python3 checks/headline.py
 	python3 checks/rows.py
 	python3 checks/no_memory.py
 	python3 scripts/page.py fit
 	python3 scripts/order.py fit
-	python3 checks/lemma_names.py
+	python3 checks/house.py fit
 	rt ci
 	@python3 checks/growths.py crates/heapdbg/out/heapdbg
+	@python3 checks/costs.py crates/heapdbg/out/heapdbg
 	@python3 checks/cases.py crates/heapdbg/out/heapdbg crates/heapdbg/out/heapdbg.by-rattle
 	@python3 checks/streams.py crates/heapdbg/out/heapdbg crates/heapdbg/out/heapdbg.by-rattle
 	@python3 checks/model crates/heapdbg/out/heapdbg crates/heapdbg/out/heapdbg.by-rattle
@@ -66,6 +68,7 @@ bench: build ## measures times
 	bash bench/lines.sh
 	python3 bench/page.py bin/heapdbg
 	python3 bench/large.py bin/heapdbg
+	python3 bench/questions.py bin/heapdbg
 	python3 bench/millions.py bin/heapdbg
 
 # Looks at the page in Chromium, which it installs where it is missing and apt-get is there. PROGRAM is the program that serves it.

@@ -6,7 +6,8 @@ PROGRAM is `bin/heapdbg` if it isn't given. Writes a session of a wide heap that
 session's heap, and reads the file back record by record by what HPROF says, without the program's code: each object, its values
 and its reference must be those that the session wrote. Opens that file by `explore --hprof`, if it has no more objects than
 that takes (CHAINS up to 838). Then loads the session by `explore --from`, asks what a hunter asks, runs a cycle, asks again,
-and rewinds. Prints how long each took on the clock, and the memory that the program has taken at most. Status 1 if a file or an
+and rewinds. Prints how long each took, lines of the hunt by the processor's time of the program and others on the clock, and the
+memory that the program has taken at most. A line of the hunt that took more than two seconds is marked. Status 1 if a file or an
 answer is wrong."""
 import mmap
 import os
@@ -21,6 +22,8 @@ import time
 TOP = pathlib.Path(__file__).resolve().parent.parent
 LENGTH, GAP = 5_000, 5
 REGIONS, KEEP = 20_000, 1 << 24
+# The seconds that a line of the hunt should take at most.
+LONGEST = 2
 # The objects of a dump of which `explore --hprof` makes a heap.
 MOST_OF_A_DUMP = 4_194_304
 OPENING = b"class Node - next:object key:int\narray [Node;\nnewarray 0 0 1 %d\n"
@@ -160,21 +163,25 @@ class Hunt:
 
     def __init__(self, program, option, path, *words):
         words = [program, "explore", *words, option, str(path)]
-        begun = time.monotonic()
         self.ran = subprocess.Popen(words, stdin=subprocess.PIPE, stdout=subprocess.PIPE, stderr=subprocess.DEVNULL)
         self.faults = []
-        self.ask("status", 7)
-        told(f"explore {option}", begun)
+        self.ask("status", 7, f"explore {option}, its lines included")
 
-    def ask(self, line, wanted=None):
-        """Asks, and returns the answer's lines; `wanted` is its last line, or the number of its rows."""
-        begun = time.monotonic()
+    def seconds(self):
+        """Returns the processor's time that the program has taken so far, that of the kernel for it included."""
+        return time.clock_gettime(~self.ran.pid << 3 | 2)
+
+    def ask(self, line, wanted=None, name=None):
+        """Asks, and returns the answer's lines; `wanted` is its last line, or the number of its rows. Prints how long it took, by a name
+        if there is one."""
+        begun = self.seconds()
         self.ran.stdin.write(line.encode() + b"\n")
         self.ran.stdin.flush()
         lines = []
         while not lines or lines[-1].startswith("row "):
             lines.append(self.ran.stdout.readline().decode().rstrip("\n"))
-        told(line, begun)
+        took = self.seconds() - begun
+        print(f"{name or line}: {took:.2f} s" + (f", more than {LONGEST}" if took > LONGEST and not name else ""), flush=True)
         if isinstance(wanted, int):
             wanted = f"ok {wanted}"
         if wanted is not None and lines[-1] != wanted:
@@ -195,9 +202,12 @@ def hunted(program, session, chains, reached, lost):
     kept = sum(map(is_kept, range(chains)))
     nodes, garbage, place = chains * LENGTH, (chains - kept) * LENGTH, steps(chains)
     table = 8 * chains
+    past = f"@{place - 100_000}"
     hunt.ask("histogram -", f"ok {nodes + 1} {12 * nodes + table}")
     hunt.ask("garbage -", f"ok {garbage} {12 * garbage}")
-    hunt.ask(f"growth @{place - 100_000} -")
+    hunt.ask(f"growth {past} -")
+    hunt.ask("dominators 2", "ok 1")
+    hunt.ask("classes", 2)
     hunt.ask("registers -", 16)
     hunt.ask(f"show - {reached:#010x}", "ok object Node 2")
     hunt.ask(f"path - {reached:#010x}", LENGTH)
@@ -206,6 +216,16 @@ def hunted(program, session, chains, reached, lost):
     hunt.ask(f"referrers - {reached:#010x}", 1)
     hunt.ask(f"born {lost:#010x}")
     hunt.ask(f"wrote {lost:#010x} 0")
+    hunt.ask(f"watch {lost:#010x} key", 1)
+    hunt.ask(f"watch 0x10000000 {chains - 2}", 1)
+    hunt.ask("writes Node key")
+    hunt.ask(f"writes [Node; {chains - 2}", 1)
+    hunt.ask(f"when Node key {nodes - 1}")
+    hunt.ask(f"objects Node key {nodes - 1}", 1)
+    hunt.ask(f"objects {past} Node key {nodes - LENGTH * 8}", 1)
+    hunt.ask(f"registers {past}", 16)
+    hunt.ask(f"path {past} {reached:#010x}", LENGTH)
+    hunt.ask(f"history {past} 20", 20)
     hunt.ask(f"dropped {lost:#010x}")
     hunt.ask("pins", 0)
     hunt.ask("collect", f"ok condemned {garbage} swept {garbage}")

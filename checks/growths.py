@@ -9,8 +9,9 @@ time: a session that ends by `memory` has answered nothing, and the other one go
 which is whole or a beginning. A save is the dump of the session's last state, or a beginning of it if the dump is lost by
 Memory. If it is lost before its first byte, or the session isn't dumped, a file that was there stays as it was, and no file is
 made. No session asks for much more memory at once than its settings need, and no rewind asks for any, nor does a sweep that
-finds no dead object beside a pin. Prints a line for each session that misbehaves, and with -v for each how many allocations
-were refused; ends with status 1 if one misbehaves."""
+finds no dead object beside a pin. A pin whose copies get no memory is listed by `pins` as lost, with its place. Prints a line
+for each session that misbehaves, and with -v for each how many allocations were refused; ends with status 1 if one
+misbehaves."""
 import contextlib
 import os
 import pathlib
@@ -548,6 +549,30 @@ def wrong_sweep(program, library):
             yield f"a sweep that finds no dead object: {cycle}, {after}, {before} and {put} requests"
 
 
+# Two writes, each of what a pin shows, and then which pins there are.
+LOSING = "class Node - v:long, new 0 0 0, open -, put 0 0 0 5, open -, put 0 0 0 7, pins, dump 1, dump 2, pins"
+
+
+def wrong_lost_pins(program, library):
+    """Yields what `pins` answers otherwise than it may, if memory for the copies of pins is refused to a write: their places, and that they
+    are lost by Memory. It must be seen for each pin."""
+    places, seen = {1: 2, 2: 3}, set()
+    for number in range(1, LIMIT):
+        status, found, error = session([program, "explore", "--regions", "2"], library, words_of(LOSING), number)
+        if not error:
+            break
+        lost = {pin for pin, (_, last) in zip(places, found[7:9]) if last == LOST}
+        if (status, error) != (0, b"refused\n") or not lost or any(last == REFUSED for _, last in found):
+            continue
+        seen |= lost
+        rows = [b"row %d %d lost Memory" % (pin, place) if pin in lost else None for pin, place in places.items()]
+        for told, last in (found[6], found[9]):
+            if last != b"ok 2" or len(told) != 2 or any(row and row != shown for row, shown in zip(rows, told)):
+                yield f"allocation {number}, {sorted(lost)} lost: {told}, {last!r}"
+    if seen != set(places):
+        yield f"only the pins {sorted(seen)} are ever lost by Memory"
+
+
 def told(name, numbers, verbose):
     """Prints what came of refusing the allocations, if something went wrong or it is asked. Returns whether all went as it may."""
     wrong = []
@@ -593,6 +618,9 @@ def main(heapdbg, verbose=False):
                 good = False
         for line in wrong_sweep(program, library):
             print(line)
+            good = False
+        for line in wrong_lost_pins(program, library):
+            print(f"lost pins, {line}")
             good = False
     return 0 if good else 1
 

@@ -1,5 +1,6 @@
 #!/usr/bin/env python3
-"""Counts what there should be little of, each with its limit: `house.py`. `house.py list` also prints what is counted.
+"""Counts what there should be little of, each with its limit: `house.py`. `house.py list` also prints what is counted, and
+`house.py fit`, which the gate runs, only what is above its limit.
 
 It goes by the text of the sources alone, so what it lists is to be looked at. Ends with status 1 if a count is above its limit,
 which is what there was when the limit was set: lower it when the count falls."""
@@ -17,6 +18,13 @@ PROGRAMS = "heap_tests", "embed_example"
 # A public function up to its body, which is empty if it is a law.
 PUBLIC = re.compile(r"(?ms)^( *)pub (?:const )?fn (\w+).*?(?:^\1(\{\}?)$| \{$)")
 MODULE = re.compile(r"Rattle\.(\w+)\.specs\.((?:\w+\.)*\w+)")
+# How a function begins, up to where its parameters do; how a clause of a contract begins; and how a definition does.
+FUNCTION = re.compile(r"( *)(?:pub(?:\([a-z]+\))? )?(?:const )?(?:unsafe )?fn (\w+)")
+CLAUSE = re.compile(r" *(?:ensures|requires|invariant|decreases)\b")
+DEFINITION = re.compile(r"(?m)^(?:(?:abbrev|unfoldable|pub|record|data|inline) )+([\w'-]+) ")
+# Words that docs/STYLE.md, which names one of them, has others for; and where they are looked for.
+BANNED = re.compile(r"want of memory|finds? no memory|\bso many\b|\bby lot\b|can't be had|wants_memory")
+TEXTS = "README.md", "CHANGES.md", "docs/*.md", "clients/**/*.md", "clients/**/*.py", "checks/**/*.py", "bench/**/*.py", "scripts/*", "man/*"
 STATEMENT = re.compile(r"(?m)^(?:pub )?([A-Za-z_][\w'-]*) : (.{40,}(?:\n +.*)*)")
 
 
@@ -103,6 +111,91 @@ def large_crates():
             yield f"{name}: {functions} functions, {lines} lines"
 
 
+def banned_words():
+    """Yields words in code and documents that docs/STYLE.md has others for."""
+    files = [path for pattern in TEXTS for path in TOP.glob(pattern) if path.is_file() and path.name not in ("STYLE.md", "house.py")]
+    found = {path: path.read_text() for path in files}
+    for crate in (*CODE.values(), *SPECS.values(), *PROOFS.values()):
+        found |= crate
+    for path, text in found.items():
+        for words in BANNED.findall(text):
+            yield f"{path.relative_to(TOP)} {words}"
+
+
+def long_clauses():
+    """Yields lines of contracts with more than 100 columns."""
+    for files in CODE.values():
+        for path, text in files.items():
+            depth = 0
+            for number, line in enumerate(text.split("\n"), 1):
+                if depth or CLAUSE.match(line):
+                    depth = max(0, depth + line.count("{") - line.count("}"))
+                    if len(line) > 100:
+                        yield f"{path.relative_to(TOP / 'crates')}:{number}"
+
+
+def functions():
+    """Yields the functions that have a body: path, name, and lines, from the first of its signature to the last of its body."""
+    for name, files in CODE.items():
+        for path, text in files.items():
+            lines = text.split("\n")
+            for at, line in enumerate(lines):
+                if (head := FUNCTION.match(line)) and (last := last_line(lines, at, head[1])):
+                    yield path, head[2], lines[at : last + 1]
+
+
+def last_line(lines, at, indent):
+    """Returns the last line of a function that begins at a line, or None if it has no body of several lines."""
+    opened = False
+    for place in range(at, len(lines)):
+        line = lines[place]
+        opened = opened or line == indent + "{" or line.endswith(" {") and not CLAUSE.match(line)
+        if line == indent + "}":
+            return place
+        if line == indent + "{}" or not opened and line.endswith((";", "}") if place == at else ";"):
+            return None
+    return None
+
+
+def long_functions():
+    """Yields functions with more than 40 lines, their clauses included, without tests."""
+    for path, name, lines in functions():
+        if len(lines) > 40 and path.name != "tests.rt" and "heap_tests" not in path.parts:
+            yield f"{path.relative_to(TOP / 'crates')} {name}: {len(lines)} lines"
+
+
+def parameters_of_tests():
+    """Yields functions of heap_tests with more than seven parameters."""
+    for path, name, lines in functions():
+        if "heap_tests" in path.parts:
+            head = re.match(r"[^(]*\((.*?)\)\s*(?:->|\{|where|$)", " ".join(lines).strip())
+            count = len(re.findall(r"\b\w+: ", head[1])) if head else 0
+            if count > 7:
+                yield f"{path.relative_to(TOP / 'crates')} {name}: {count} parameters"
+
+
+def shared_definitions():
+    """Yields names of definitions that stand in the specs of several crates."""
+    crates = collections.defaultdict(set)
+    for name, files in SPECS.items():
+        for text in files.values():
+            for word in DEFINITION.findall(re.sub(r"(?m)^(?:pub )?(?:use|mod) .*", "", text)):
+                crates[word].add(name)
+    return [f"{word}: {' '.join(sorted(found))}" for word, found in sorted(crates.items()) if len(found) > 1]
+
+
+def broken_wraps():
+    """Yields lines of comments behind which a line begins whose first word would have stood there within 90 columns."""
+    for files in (*CODE.values(), *SPECS.values(), *PROOFS.values()):
+        for path, text in files.items():
+            mark = r" *//[/!]? " if path.suffix == ".rt" else r" *-- "
+            lines = text.split("\n")
+            for number, (line, after) in enumerate(zip(lines, lines[1:]), 1):
+                if re.match(mark + r"\S.*[^.:;?!) ]$", line) and (word := re.match(mark + r"([\w`'(\"][^ ]*)", after)):
+                    if len(line) + 1 + len(word[1]) <= 90:
+                        yield f"{path.relative_to(TOP / 'crates')}:{number}"
+
+
 # What is counted, and the most of it.
 COUNTS = {
     unshared_functions: 20,
@@ -112,20 +205,27 @@ COUNTS = {
     modules_without_head: 0,
     words_with_two_meanings: 0,
     large_crates: 9,
+    banned_words: 2,
+    long_clauses: 11,
+    long_functions: 8,
+    parameters_of_tests: 0,
+    shared_definitions: 118,
+    broken_wraps: 0,
 }
 
 
-def main(lists):
+def main(words):
     """Returns the exit status."""
     status = 0
     for count, most in COUNTS.items():
         found = list(count())
-        print(f"{len(found)} of at most {most}: {count.__name__.replace('_', ' ')}")
-        if lists:
+        if words != ["fit"] or len(found) > most:
+            print(f"{len(found)} of at most {most}: {count.__name__.replace('_', ' ')}")
+        if words == ["list"]:
             print(*(f"    {each}" for each in found), sep="\n")
         status |= len(found) > most
     return status
 
 
 if __name__ == "__main__":
-    sys.exit(main(sys.argv[1:] == ["list"]))
+    sys.exit(main(sys.argv[1:]))

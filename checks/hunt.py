@@ -4,7 +4,8 @@
 Usage: checks/hunt.py [PROGRAM ..]
 Each hunt explores a file. In its blocks a line after `> ` is given to `heapdbg explore`; the lines below it are the answer that
 a terminal must show, where `..` stands for any lines. Elsewhere the same answer must come without headings and columns. A hunt
-has at most ten questions. Prints a line for each difference and ends with status 1 if there is one."""
+has at most ten questions, and each id and place in one of them stands in an answer above it. Prints a line for each difference
+and ends with status 1 if there is one."""
 import os
 import pathlib
 import re
@@ -97,6 +98,16 @@ def shown_by(program, path, asked):
     return [answer.split(b"\n")[:-1] for answer in re.split(rb"heapdbg \d+> \|", shown)[1:-1]]
 
 
+def from_nowhere(asked):
+    """Yields (line, word) for each id and each place in a line that no answer above shows."""
+    above = set()
+    for line, wanted in asked:
+        for word in line.replace(b".", b" ").split():
+            if word.startswith((b"0x", b"@")) and word.lstrip(b"@") not in above:
+                yield line, word
+        above |= {word for row in wanted for word in row.split()}
+
+
 def differences(programs, name, asked):
     """Yields a line for each answer in a hunt that isn't what it must be."""
     path = TOP / f"examples/{name}.session"
@@ -106,6 +117,8 @@ def differences(programs, name, asked):
     first = ("--from", str(path))
     if len(asked) > QUESTIONS:
         yield f"{name}: {len(asked)} questions"
+    for line, word in from_nowhere(asked):
+        yield f"{name}: {line!r} has {word!r}, which no answer above has"
     for each in programs:
         if of_program(each, lines[len(story) :], answers[len(story) :], *first) != answers[len(story) :]:
             yield f"{each}: another answer after --from"

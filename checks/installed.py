@@ -201,6 +201,19 @@ def asked(shell, readme):
         yield "README's example is another than examples/point.session"
 
 
+def served(shell, readme):
+    """Yields what the heap that README serves does otherwise than it says: two clients come to it, one after another."""
+    serve, *others = [each for each in commands_of(readme)[1] if each.startswith("heapdbg serve ")]
+    with shell.start(serve) as server:
+        server.waits_for(shell.ports["7000"])
+        for client in ("ask", "explore"):
+            if (came := shell.run(f"heapdbg {client} --port 7000", b"clear 0 0\n")) != (0, b"ok\n", b""):
+                yield f"README, {client!r} after {serve!r}: {came}"
+        server.waits_for_lines(2)
+        if others or (came := server.stopped()) != (-signal.SIGTERM, b"session 1 quit\nsession 2 quit\n", b""):
+            yield f"README, {serve!r}: {others or came}"
+
+
 def live(shell, document):
     """Yields what the heap that SESSIONS serves, its two sessions and its dumps do otherwise than it says."""
     text = document.read_text()
@@ -306,8 +319,9 @@ def documents(folder, programs):
     with Shell(folder, programs) as shell:
         looks = ((live, "docs/SESSIONS.md"), (paged, "README.md"), (asked, "README.md"), (hunted, "docs/HUNT.md"), (client, "clients/python"),
                  (recorded, "docs/RECORD.md"))
-        # (the client's example writes the same file)
+        # (the client's example writes the same file, and SESSIONS serves at the same port)
         yield from seen(viewed, "docs/VIEWERS.md", shell, folder)
+        yield from seen(served, "README.md", shell, folder)
         with concurrent.futures.ThreadPoolExecutor(len(looks)) as pool:
             for found in pool.map(lambda look: seen(*look, shell, folder), looks):
                 yield from found

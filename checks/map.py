@@ -1,8 +1,10 @@
 #!/usr/bin/env python3
-"""Looks whether each path and each name of docs/MAP.md is there.
+"""Looks whether each path and each name of docs/MAP.md is there, and whether its lists name each place.
 
-In the table a path is followed by the names that stand in it. Below the table a path may lack its beginning. Prints a line for
-each that is missing, and ends with status 1 if there is one; prints nothing where all is well."""
+In the table a path is followed by the names that stand in it. Below the table a path may lack its beginning. A file that names
+all members of a kind, such as all events, has a case for each: it is a place of a new member, which the list of that kind has to
+name. Prints a line for each that is missing, and ends with status 1 if there is one; prints nothing where all is well."""
+import functools
 import pathlib
 import re
 import sys
@@ -10,8 +12,28 @@ import sys
 TOP = pathlib.Path(__file__).resolve().parent.parent
 PATH = re.compile(r"[\w.-]+(/[\w.-]+)+/?|[\w-]+\.(antt|rt|py|md|sh)|checks/model")
 ELSEWHERE = ("edits/", "checks/", "examples/", "bench/")
+# The members of a kind: those of an enum, by its file and name, or words, with the lists of the page that have their places.
+HELP = TOP / "checks/sessions/questions/help.expected"
+LINES = "Add a session line"
+KINDS = (
+    (("Add an event", LINES), "heap_step/src/lib.rt", "Event"),
+    (("Add an event", LINES), "heap_step/src/lib.rt", "Undo"),
+    ((LINES,), "heap_trail/src/lib.rt", "Action"),
+    (("Add a question",), "question_grammar/src/question.rt", "Question"),
+    (("Add a refusal",), "heap_class/src/lib.rt", "Refusal"),
+)
+# Files that tell of all members, but get no case for a new one: tests, examples, and documents of something else.
+NO_PLACES = {
+    "checks/map.py",
+    "crates/heap_tests/src/calls/drive.rt",
+    "crates/heap_trail/specs/DumpExamples.antt",
+    "docs/MAP.md",
+    "docs/RELIABILITY.md",
+}
+FOLDERS = "crates", "checks", "clients", "completions", "docs", "man", "bench"
 
 
+@functools.cache
 def files():
     """Returns the paths of all files and folders of the repository, from the top."""
     found = []
@@ -50,12 +72,48 @@ def missing_below(text, paths):
                 yield f"no path ends with {word}"
 
 
+def variants(path, enum):
+    """Returns the names of the variants of an enum."""
+    body = re.search(rf"^pub enum {enum}\b[^{{]*\{{(.*?)^\}}", (TOP / "crates" / path).read_text(), re.MULTILINE | re.DOTALL)[1]
+    return re.findall(r"^    ([A-Z]\w+)", body, re.MULTILINE)
+
+
+def kinds():
+    """Yields the members of each kind, with the lists that have their places."""
+    yield from ((variants(path, enum), lists) for lists, path, enum in KINDS)
+    words = [row.split()[1] for row in HELP.read_text().split("\nok\n")[0].split("\n")]
+    first, last = words.index("end"), words.index("status")
+    yield words[:first], (LINES,)
+    yield words[first + 1 : last + 1], ("Add a question",)
+    yield ["workers", "idle", "roll", "stay"], ("Add an option",)
+
+
+def unnamed(text):
+    """Yields the places of new members that no list names."""
+    parts = {part.split("\n")[0]: part for part in text.split("\n## ")[1:]}
+    named = {path: set(re.findall(r"[A-Za-z0-9]+", (TOP / path).read_text(errors="replace"))) for path in sources()}
+    for members, lists in kinds():
+        places = "".join(parts[name] for name in lists)
+        for path, words in named.items():
+            if set(members) <= words and path not in NO_PLACES and pathlib.Path(path).stem not in places:
+                yield f"{lists[0]}: {path} names all of {members[0]} to {members[-1]}, and isn't listed"
+
+
+def sources():
+    """Yields the paths of the files in which something may have to be added."""
+    for path in files():
+        where = pathlib.Path(path)
+        if where.parts[0] in FOLDERS and not "must-fail" in where.parts and (TOP / path).is_file():
+            yield path
+
+
 def main():
     """Returns the exit status."""
     lines = (TOP / "docs/MAP.md").read_text().split("\n")
     rows = [line for line in lines if line.startswith("| ")]
     found = [f"{row.split(' | ')[0][2:]}: {each}" for row in rows[1:] for each in missing_of_row(row)]
-    found += missing_below("\n".join(line for line in lines if not line.startswith("|")), files())
+    below = "\n".join(line for line in lines if not line.startswith("|"))
+    found += [*missing_below(below, files()), *unnamed(below)]
     for line in found:
         print(f"docs/MAP.md: {line}")
     if len(rows) < 20:

@@ -7,6 +7,7 @@ nothing where all is well."""
 import hashlib
 import os
 import pathlib
+import re
 import shutil
 import subprocess
 import sys
@@ -75,8 +76,17 @@ def refused(folder, name, wanted):
         yield f"{name}: make dist has status {status}, says {said!r}, and leaves {archives(folder)}"
 
 
+def steps(folder):
+    """Yields what is wrong if the gate's note isn't taken back by its first step, and written by its last."""
+    rule = re.search(r"^test:.*\n((?:\t.*\n)+)", (folder / "Makefile").read_text(), re.MULTILINE)[1].split("\n")[:-1]
+    noting = [at for at, step in enumerate(rule) if "dist.sh" in step]
+    if noting != [0, len(rule) - 1] or "dist.sh begin" not in rule[0] or "dist.sh passed" not in rule[-1]:
+        yield f"the gate's first and last steps are {rule[0]!r} and {rule[-1]!r}"
+
+
 def differences(folder, programs):
     """Yields what is wrong, with each thing in turn that keeps a program from being packed."""
+    yield from steps(folder)
     built, importer, page = folder / "bin/heapdbg", folder / "bin/heapdbg-import", folder / "README.md"
     yield from refused(folder, "without git", "git names no commit")
     passed(folder, programs)

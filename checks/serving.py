@@ -14,8 +14,11 @@ import time
 
 from servers import LIMIT, Server, all_of
 
-# The number of cycles that the marker has to end.
-CYCLES = 200
+# The number of cycles that the marker has to end, and the lines that leave garbage before each: an array in each of 60 regions, so
+# that it takes the sweeper 60 acts to remove what a cycle condemned, and the marker ends the next one before that.
+CYCLES = 100
+FILLED = 60
+ARRAYS = FILLED * b"newprim 0 1 long 1024\n"
 # The seconds that a cycle of one object may take.
 CYCLE_LIMIT = 3
 # The number of replies in a round, of rounds, the seconds between two replies, and the most seconds of the median reply in the
@@ -89,12 +92,12 @@ def begins_cycle(client):
 
 
 def cycles_by_workers(program):
-    """Yields how many cycles a client begins, each as soon as the marker among the workers has ended the one before. A region mostly
-    waits to be swept then, so that the marker is refused to end the new one at once."""
-    with serving(program, "--workers", "1") as (server, client):
+    """Yields how many cycles a client begins, each as soon as the marker among the workers has ended the one before. Regions wait to be
+    swept then, so that the marker is refused to end the new one at once."""
+    with serving(program, "--workers", "1", "--regions", "256") as (server, client):
         made = client.replies(b"class Point - x:int y:int\nnew 0 0 0\n", 2)
         begun = 0
-        while begun < CYCLES and begins_cycle(client):
+        while begun < CYCLES and client.replies(ARRAYS, FILLED) and begins_cycle(client):
             begun += 1
         found = len(made), begun, client.ended(), server.ended()
     yield f"cycles that a client begins and workers end, each in {CYCLE_LIMIT} s", found, (2, CYCLES, b"", (0, ["quit"], b""))

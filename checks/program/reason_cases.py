@@ -40,6 +40,10 @@ def reasons(program):
             (["fetch", "--port", str(taken), "--out", folder], b"", b"%s: Is a directory" % folder.encode(), b"out"),
             (["serve", "--port", str(taken)], b"", in_use, b"listen"),
             (["serve", "--port", str(free), "--dumps", str(taken)], b"", in_use, b"listen"),
+            (["serve", "--port", str(free), "--page", str(taken)], b"", in_use, b"listen"),
+            (["explore", "--page", str(taken)], b"", in_use, b"listen"),
+            (["serve", "--port", str(free), "--secret", missing], b"", lacks, b"secret"),
+            (["ask", "--port", str(taken), "--secret", missing], b"", lacks, b"secret"),
         ):
             told = b"heapdbg: %s\n" % word
             why = b"heapdbg: %s\n" % reason

@@ -303,7 +303,7 @@ ok object Node 2
 heapdbg 12> |  0           1
   0x10000000  0  Node
 ok 2
-heapdbg 12> |  ID          CLASS  SLOT  OLD   NEW
+heapdbg 12> |  ID          CLASS  SLOT  OLD  NEW
   0x10000000  Node   gone
   0x10000000  Leaf   made
   0x10000020  Leaf   gone

@@ -400,14 +400,17 @@ class Columns(unittest.TestCase):
         self.assertEqual(words, ["-", "@816", "1", "2", "", "3", "@4", "@1 -", "1 -", "@5", "-", "1", "-", "2", "2"])
 
     def test_places_with_names(self):
-        heap = canned("ok place 7", "ok place 7", "ok place 9", "ok 0", "ok 0", "ok 0", "ok pin 1 at 7", "ok place 7", "no 30 NameLimit")
-        self.assertEqual((heap.name("start"), heap.at(Named("start")), heap.at()), (7, 7, 9))
+        told = [*["ok place 7"] * 2, "ok 0", "ok 0 0", "ok 0", "ok place 9", *["ok 0"] * 3, "ok pin 1 at 7", "ok place 7", "no 30 NameLimit"]
+        heap = canned(*told)
+        self.assertEqual((heap.name("start"), heap.at(Named("start"))), (7, 7))
+        self.assertEqual((heap.growth(), heap.kept(), heap.diff(), heap.at()), ([], [], [], 9))
         self.assertEqual((heap.growth(Named("start")), heap.history(3), heap.objects(None, 0)), ([], [], []))
         self.assertEqual((heap.open(Named("start")), heap.rewind(Named("start"))), ((1, 7), 7))
         self.assertRaises(Refused, lambda: heap.name("one.more"))
         self.assertRaises(BadCommand, lambda: heap.name("two words"))
-        lines = b"name start", b"at @start", b"at -", b"growth @start -", b"history 3", b"objects - 0", b"open @start", b"rewind @start"
-        self.assertEqual(heap.writer.getvalue(), b"".join(line + b"\n" for line in (*lines, b"name one.more")))
+        lines = [b"name start", b"at @start", b"growth", b"kept", b"diff", b"at -", b"growth @start -", b"history 3", b"objects - 0"]
+        lines += [b"open @start", b"rewind @start", b"name one.more"]
+        self.assertEqual(heap.writer.getvalue(), b"".join(line + b"\n" for line in lines))
 
     def test_files(self):
         heap = canned("ok 301", "ok 301", "ok 9000", "no 31 NoFile", "ok 8000", "bad command")

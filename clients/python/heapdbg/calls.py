@@ -93,6 +93,12 @@ def word_of_name(name: Name) -> str:
     return str(name) if isinstance(name, int) else word_of(name)
 
 
+def between(older: Moment, newer: Moment) -> str:
+    """Returns two moments as the words behind that of a line, or nothing where neither is given: the state that `at` says, and the
+    current one."""
+    return "" if older is None and newer is None else f" {word_of_moment(older)} {word_of_moment(newer)}"
+
+
 def fields_from(of: int, along: Sequence[Name]) -> str:
     """Returns the word of an object with fields behind it. A field with a dot in its name can be given by its number alone."""
     dotted = [field for field in along if "." in str(field)]
@@ -273,19 +279,19 @@ class Calls:
         """Returns a `ClassCount` for each class that has objects, the most bytes first."""
         return self.send(f"histogram{about(moment)}", rows_by(counted))
 
-    def growth(self, older: Moment, newer: Moment = None) -> list[ClassGrowth]:
-        """Returns a `ClassGrowth` for each class that differs between two moments."""
-        return self.send(f"growth {word_of_moment(older)} {word_of_moment(newer)}", rows_by(grown))
+    def growth(self, older: Moment = None, newer: Moment = None) -> list[ClassGrowth]:
+        """Returns a `ClassGrowth` for each class that differs between two moments; without any, between that of `at` and `Now()`."""
+        return self.send(f"growth{between(older, newer)}", rows_by(grown))
 
-    def kept(self, older: Moment, newer: Moment = None) -> list[ClassCount]:
+    def kept(self, older: Moment = None, newer: Moment = None) -> list[ClassCount]:
         """Returns a `ClassCount` for each class of the objects that registers reach at the newer moment and that weren't there at
         the older one."""
-        return self.send(f"kept {word_of_moment(older)} {word_of_moment(newer)}", rows_by(counted))
+        return self.send(f"kept{between(older, newer)}", rows_by(counted))
 
-    def diff(self, older: Moment, newer: Moment = None) -> list[Union[ObjectDifference, SlotDifference]]:
+    def diff(self, older: Moment = None, newer: Moment = None) -> list[Union[ObjectDifference, SlotDifference]]:
         """Returns what differs between the objects of two moments, by id: an `ObjectDifference` for each object of one of them alone,
         and a `SlotDifference` for each slot of an object of both that holds other values."""
-        return self.send(f"diff {word_of_moment(older)} {word_of_moment(newer)}", rows_by(difference))
+        return self.send(f"diff{between(older, newer)}", rows_by(difference))
 
     def path(self, moment: Moment, to: int) -> list[Union[RegisterStep, SlotStep]]:
         """Returns a shortest path to an object: a `RegisterStep`, then a `SlotStep` for each slot."""

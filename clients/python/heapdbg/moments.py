@@ -50,7 +50,7 @@ class PinAt(NamedTuple):
     place: int
 
 
-# A moment. None is what the session's `at` says, which is `Now()` unless it says otherwise; where two moments are meant, it is `Now()`.
+# A moment. None is what the session's `at` says, which is `Now()` unless it says otherwise; it is `Now()` beside another moment.
 # A number is that of a pin, and a text is the word of a line, such as `"@120"`.
 Moment = Union[Now, Place, Named, Pin, PinAt, None, int, str]
 

@@ -6,5 +6,7 @@ use Rattle.question_text.specs.Help.{LineForm, form_of}
 unfoldable pub own_forms : List LineForm
 own_forms =
     form_of (codes "source") (codes "source PATH") (codes "source questions.session")
+    (codes "runs the lines of a file")
     ∷ form_of (codes "log") (codes "log -|PATH") (codes "log hunt.session")
+    (codes "puts the session into a new file, or ends that with -")
     ∷ []

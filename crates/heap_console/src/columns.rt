@@ -180,11 +180,6 @@ fn aligned_row(line: &[u8]) -> Option<&[u8]> {
     Some(row)
 }
 
-// Returns a line without the word `row` before it.
-fn without_row(line: &[u8]) -> &[u8] {
-    line.strip_prefix(b"row ").unwrap_or(line)
-}
-
 // Adds rows with their words in columns, and before them the names of the columns.
 fn add_rows(
     alloc: Global,
@@ -234,6 +229,11 @@ fn add_line(text: &mut Vec<u8>, line: &[u8]) -> Result<(), AllocError> {
     text.extend_from_slice(line)?;
     text.push(LINE_END)?;
     Ok(())
+}
+
+// Returns a line without the word `row` before it.
+fn without_row(line: &[u8]) -> &[u8] {
+    line.strip_prefix(b"row ").unwrap_or(line)
 }
 
 impl<'a, O: Outlet + Drop> ColumnOutlet<'a, O> {

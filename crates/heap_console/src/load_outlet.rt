@@ -106,7 +106,8 @@ impl<'a, R: Clock + Eprint, C: Commands + Drop, B: LoadStart<C>> LoadOutlet<'a, 
     /// Returns the commands as the lines left them. If not all lines that were put were run, reports why, and fails with it.
     #[tactic(auto, using(crate::proofs::LoadedTexts::lines_all_run_are_loaded, crate::proofs::LoadedTexts::lines_not_run_have_an_end))]
     pub fn into_commands(self) -> Result<C, Ended>
-        ensures run { IfOk result (IsTextLoadedFrom B.limits (AnswersCommand C.acts C.unknown B.time)
+        ensures run { IfOk result (IsTextLoadedFrom B.limits (AnswersCommand C.acts C.unknown
+            B.time)
             (Begins C.acts C.unknown B.time) self.entry.out B.start) }
         ensures failures { IfOk result (λ _. self.entry.failures ≡ 0) }
         ensures ended { IfErr result (IsLoadEnded B.limits

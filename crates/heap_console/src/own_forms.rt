@@ -20,8 +20,8 @@ pub fn own_keyword_help(word: &[u8]) -> Option<&'static [u8]>
     ensures { option_map (λ t. t.now) result ≡ form_with own_forms word.now }
 {
     by_word!(word;
-        b"source" => Some(b"row source PATH\nrow source questions.session\nok\n"),
-        b"log" => Some(b"row log -|PATH\nrow log hunt.session\nok\n"),
+        b"source" => Some(b"row source PATH\nrow source questions.session\nrow # runs the lines of a file\nok\n"),
+        b"log" => Some(b"row log -|PATH\nrow log hunt.session\nrow # puts the session into a new file, or ends that with -\nok\n"),
         _ => None
     )
 }

@@ -173,7 +173,7 @@ fn add_regions<C: CellMap>(text: &mut Vec<u8>, cells: &C, rows: &Rows) -> Result
     add_sort(text, cells, rows, CellSort::Gray, b"#e00000", b"2")
 }
 
-// Appends the number of each of so many regions that has a row beside it.
+// Appends the number of each of the first `count` regions that has a row, beside its row.
 fn add_labels(text: &mut Vec<u8>, count: u64, rows: &Rows) -> Result<(), AllocError> {
     for region in 0..count {
         if let Some(row) = rows.row(region) {

@@ -37,31 +37,39 @@ impl<W: Outlet + Drop> SessionLog<W> {
 
     // Puts bytes into the file that were read, if there is one. Returns false if that failed: then there is none any more.
     fn note_read(&self, read: &[u8]) -> bool {
-        self.has_read.set(true);
-        self.put(read)
+        match self.file.replace(None) {
+            Some(file) => {
+                self.has_read.set(true);
+                self.put(file, read)
+            }
+            None => true,
+        }
     }
 
-    // Puts bytes into the file that were written, if there is one and something was read since it was set. Returns false if that
-    // failed: then there is none any more.
+    // Puts bytes into the file that were written, if there is one. Returns false if that failed: then there is none any more.
     fn note_written(&self, written: &[u8]) -> bool {
+        match self.file.replace(None) {
+            Some(file) => self.put_written(file, written),
+            None => true,
+        }
+    }
+
+    // Puts bytes into this file that were written, if something was read since it was set. Returns false, and leaves none, if that
+    // failed.
+    fn put_written(&self, file: W, written: &[u8]) -> bool {
         if !self.has_read.get() {
+            self.file.set(Some(file));
             return true;
         }
         let begins = !self.is_cut.replace(written.last() != Some(&LINE_END));
         match with_signs(self.alloc, written, begins) {
-            Ok(text) => self.put(text.as_slice()),
-            Err(_) => {
-                self.file.set(None);
-                false
-            }
+            Ok(text) => self.put(file, text.as_slice()),
+            Err(_) => false,
         }
     }
 
-    // Puts bytes into the file, if there is one. Returns false if that failed: then there is none any more.
-    fn put(&self, bytes: &[u8]) -> bool {
-        let Some(file) = self.file.replace(None) else {
-            return true;
-        };
+    // Puts bytes into this file. Returns false, and leaves none, if that failed.
+    fn put(&self, file: W, bytes: &[u8]) -> bool {
         let mut file = file;
         if write_all(&mut file, bytes) {
             self.file.set(Some(file));
@@ -89,7 +97,7 @@ fn with_signs(alloc: Global, written: &[u8], begins: bool) -> Result<Vec<u8>, Al
 
 // Says on standard error that a log goes on no more.
 fn tell_cut<R: Eprint>(rt: &R) {
-    let _ = eprintln!(rt; "heapdbg: the log is cut: a write to it failed");
+    let _ = eprintln!(rt; "heapdbg: the log is cut: no more can be written");
 }
 
 /// An inlet that puts into a log what another gives. Contracts see what they see of the other.

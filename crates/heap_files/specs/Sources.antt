@@ -28,7 +28,7 @@ abbrev pub IsRun : SessionLimits → ℕ → Incoming → Asking → List ℕ �
 IsRun limits time a c text d =
     (b : Incoming) × (w : Outgoing) × (ended : Ended)
     × ServesAsking limits time a b c nothing_put d w ended
-    × IsSourceText w.out d.local.machine.place text
+    × IsSourceText w.out d.local.machine.trail.place text
 
 -- the file of a path was opened, and its lines were run; or it wasn't
 abbrev pub Sources : {F : Type 0} → FolderActs F → List ℕ → Filing F → List ℕ → Filing F → Type 0

@@ -149,14 +149,22 @@ impl<'a, F: Folder> Filing<'a, F> {
         ensures { DoesWith F.acts own.entry.deed own.entry.path.now self.old
             (line_answer_text result) self.new }
     {
-        let answer = match own.deed {
-            Deed::Source => self.answer_source(alloc, own.path),
-            Deed::Log => self.answer_log(own.path),
-        };
+        let answer = self.do_with(alloc, own);
         self.asking
             .watch
             .note_answer(&self.asking.local.machine, &answer);
         answer
+    }
+
+    // Runs the lines of a file, or begins or ends a log.
+    fn do_with(&mut self, alloc: Global, own: OwnLine<'_>) -> LineAnswer
+        ensures { DoesWith F.acts own.entry.deed own.entry.path.now self.old
+            (line_answer_text result) self.new }
+    {
+        match own.deed {
+            Deed::Source => self.answer_source(alloc, own.path),
+            Deed::Log => self.answer_log(own.path),
+        }
     }
 
     // Runs the lines of the file of a path, if it can be opened, and returns their replies and the place to which they led.

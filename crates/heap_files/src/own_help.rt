@@ -68,6 +68,7 @@ fn all_own_help(alloc: Global) -> Result<Vec<u8>, AllocError>
 }
 
 // Returns the rows of `help` in each session with questions.
+#[tactic(auto, unfolding(question_text::specs::Help::help_text), using(question_text::proofs::HelpRows::rows_before_ok, question_text::proofs::HelpRows::ok_is_there))]
 fn help_rows() -> &'static [u8]
     ensures { result.now ≡ help_rows all_forms }
 {

@@ -15,7 +15,8 @@ pub fn serve_filing<I: Inlet, O: Outlet, F: Folder>(
     writer: &mut O,
     filing: &mut Filing<'_, F>,
 ) -> Ended
-    ensures ends { EndsSession filing.old.limits (I.seen reader.old) (I.seen reader.new) (O.seen writer.old)
+    ensures ends { EndsSession filing.old.limits (I.seen reader.old) (I.seen reader.new) (O.seen
+        writer.old)
         (O.seen writer.new) result }
     ensures session { ServesFiling F.acts filing.old.limits (I.seen reader.old) (I.seen reader.new)
         filing.old (O.seen writer.old) filing.new (O.seen writer.new) result }

@@ -32,7 +32,7 @@ pub(crate) fn run_lines<I: Inlet>(
 
 // Returns the answer of a session that has written this and led to a place.
 fn source_answer(written: Vec<u8>, place: u64) -> LineAnswer
-    ensures { IsSourceText written.entry.items place (line_answer_text result) }
+    ensures { IsSourceText written.items place (line_answer_text result) }
 {
     match with_place(written, place) {
         Ok(text) => LineAnswer::Text(text),

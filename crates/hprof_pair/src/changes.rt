@@ -49,7 +49,8 @@ pub(crate) fn push_changes(
         ≤ length pair.now.first.all.plan.now.classes }
     requires second { index_map_len pair.now.second.all.plan.now.kinds
         ≤ length pair.now.second.all.plan.now.classes }
-    ensures { OnOk result (lines.new ≡ lines.old ++ lines_of (change_events (pair_told pair.now) n)) }
+    ensures { OnOk result (lines.new ≡ lines.old ++ lines_of (change_events (pair_told pair.now)
+        n)) }
 {
     match pair.heap_number(n) {
         Some(k) => {

@@ -210,7 +210,8 @@ fn write_pair<O: Outlet>(
     requires roots { pair.now.first.all.plan.now.roots < 2 ^ 62 }
     ensures { (items : List ItemTold) → IsWhole (left walk.entry) items
         → Writes (O.seen outlet.old) (O.seen outlet.new)
-        (session_text known.now.first.now.plan walk.entry.ids known.now.first.now.found.objects.keys items
+        (session_text known.now.first.now.plan walk.entry.ids
+        known.now.first.now.found.objects.keys items
         known.now.first.now.found.roots.items
         ++ (kept_line ++ (known.now.both.now.joined.text.items
         ++ (lines_of (second_events (pair_told pair.now) known.now.both.now.ways.ways.items

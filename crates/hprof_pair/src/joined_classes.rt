@@ -41,7 +41,8 @@ pub(crate) fn join_classes(
     requires limits { AreClassLimits limits }
     requires long { 22 ≤ limits.name_bytes }
     requires count { count ≤ length second.now }
-    ensures { IfOk result (λ j. AreJoined first j (classes_joined limits first (take count second.now))) }
+    ensures { IfOk result (λ j. AreJoined first j (classes_joined limits first (take count
+        second.now))) }
 {
     let known = lines_of(alloc, &first)?;
     let mut joined = JoinedClasses {

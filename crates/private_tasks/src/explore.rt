@@ -22,10 +22,10 @@ use std::fs::Files;
 use std::time::Clock;
 
 /// Runs one session, in which questions are answered and lines write and read files, over a heap of its own. `log` is what puts
-/// into a file what it reads and writes. If `origin` says so, the lines
-/// of the file of the path, or of the session of the dump in it, are run first, and write no files; their answers are not shown, and
-/// each line that is refused is reported on standard error. Why a line writes no file is said on standard error, if that is a
-/// terminal. Fails as a session does, with Memory if the heap can't be allocated, and as `run_first` does.
+/// into a file what it reads and writes. If `origin` says so, the lines of the file of the path, or of the session of the dump in
+/// it, are run first, and write no files; their answers are not shown, and each line that is refused is reported on standard error.
+/// Why a line writes no file is said on standard error, if that is a terminal. Fails as a session does, with Memory if the heap
+/// can't be allocated, and as `run_first` does.
 #[tactic(auto, using(crate::proofs::Hindrances::no_memory_hinders))]
 pub fn explore<R: AllocGlobal + Clock + Eprint + Files, I: Inlet, O: Outlet>(
     rt: &R,
@@ -65,8 +65,9 @@ fn explore_on<'a, R: AllocGlobal + Clock + Eprint + Files, I: Inlet, O: Outlet>(
     let asking = run_first(rt, request, origin, is_terminal, asking)?;
     let Settings { time, wide, .. } = request.settings;
     let files = OwnFiles::new(rt, is_terminal, log);
+    let limits = session_limits(wide);
     let hinting = Hinting::new(&screen.console.hints);
-    let mut filing = Filing::new(asking, files, time, session_limits(wide), hinting);
+    let mut filing = Filing::new(asking, files, time, limits, hinting);
     let ended = serve_filing(rt.alloc(), reader, writer, &mut filing);
     outcome(ended)
 }

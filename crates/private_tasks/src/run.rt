@@ -68,7 +68,8 @@ fn run_plain_on<R: AllocGlobal + Clock + Eprint + Files, I: Inlet, O: Outlet>(
     writer: &mut O,
 ) -> Result<(), Fault>
     requires { local.machine ≡ opening_machine (limits_of request.settings)
-        request.settings.ids request.settings.regions request.settings.mutators request.settings.keep }
+        request.settings.ids request.settings.regions request.settings.mutators
+        request.settings.keep }
     ensures { IsRun origin request.entry.settings (I.seen reader.old) (I.seen reader.new)
         (O.seen writer.old) (O.seen writer.new) result }
 {

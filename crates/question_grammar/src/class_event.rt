@@ -53,6 +53,13 @@ fn next_name<'a>(words: &mut Words<'a>) -> Option<&'a [u8]>
     Some(word)
 }
 
+// Tells whether no byte is bad.
+fn is_plain(word: &[u8]) -> bool
+    ensures { result ≡ is_plain word.now }
+{
+    word.iter().all(|byte| 0x20 <= *byte && *byte <= 0x7E)
+}
+
 // Reads the next word as the name of a super. Returns None if it is none.
 fn next_super(classes: &FirstClasses<'_>, words: &mut Words) -> Option<ClassNo>
     ensures { IsNextWord (next_super classes.now (words_of_line words.old))
@@ -75,21 +82,6 @@ fn are_fields(mut words: Words) -> bool
         }
     }
     true
-}
-
-// Returns copies of the fields that the words are, or None if one of them is no field. Fails if an allocation fails.
-fn fields_in(alloc: Global, mut words: Words) -> Result<Option<Fields>, AllocError>
-    ensures { IfOk result (λ fields. fields ≡ plain_fields (words_of_line words.entry)) }
-{
-    let mut copies = Vec::new(alloc);
-    while let Some(word) = words.next_word() {
-        let Some((name, kind)) = field_of(word) else {
-            return Ok(None);
-        };
-        let name = Name::new(alloc, name)?;
-        copies.push(Field { name, kind })?;
-    }
-    Ok(Some(Fields::from_vec(copies)))
 }
 
 // Returns the name and the kind of the field NAME:KIND that a word is, or None if it is none or has a bad byte.
@@ -126,9 +118,17 @@ fn kind_of(word: &[u8]) -> Option<Kind>
     None
 }
 
-// Tells whether no byte is bad.
-fn is_plain(word: &[u8]) -> bool
-    ensures { result ≡ is_plain word.now }
+// Returns copies of the fields that the words are, or None if one of them is no field. Fails if an allocation fails.
+fn fields_in(alloc: Global, mut words: Words) -> Result<Option<Fields>, AllocError>
+    ensures { IfOk result (λ fields. fields ≡ plain_fields (words_of_line words.entry)) }
 {
-    word.iter().all(|byte| 0x20 <= *byte && *byte <= 0x7E)
+    let mut copies = Vec::new(alloc);
+    while let Some(word) = words.next_word() {
+        let Some((name, kind)) = field_of(word) else {
+            return Ok(None);
+        };
+        let name = Name::new(alloc, name)?;
+        copies.push(Field { name, kind })?;
+    }
+    Ok(Some(Fields::from_vec(copies)))
 }

@@ -95,25 +95,6 @@ fn new_by_name(classes: &FirstClasses<'_>, mut words: Words) -> Option<Event>
     at_end(Event::New { m, r, class }, words)
 }
 
-// Reads the next word as the name of a class. Returns None if it is none.
-pub(crate) fn next_class(classes: &FirstClasses<'_>, words: &mut Words) -> Option<ClassNo>
-    ensures { IsNextWord (next_class classes.now (words_of_line words.old))
-        (words_of_line words.new) result }
-{
-    let word = words.next_word()?;
-    class_at(classes, word)
-}
-
-// Returns the class with this name. A number names none.
-pub(crate) fn class_at(classes: &FirstClasses<'_>, word: &[u8]) -> Option<ClassNo>
-    ensures { result ≡ unless_number word.now (class_named classes.now word.now) }
-{
-    match number_of(word) {
-        Some(_) => None,
-        None => class_named(classes, word),
-    }
-}
-
 // Reads the words of `newarray M R NAME LEN`.
 fn array_by_name(classes: &FirstClasses<'_>, mut words: Words) -> Option<Event>
     ensures { result ≡ array_by_name classes.now (words_of_line words.entry) }
@@ -178,4 +159,23 @@ fn write_by_name(world: &World, mut words: Words) -> Option<(u64, u64, u64, u64)
     let slot = next_slot(world, m, target, &mut words)?;
     let written = next_number(&mut words)?;
     at_end((m, target, slot, written), words)
+}
+
+// Reads the next word as the name of a class. Returns None if it is none.
+pub(crate) fn next_class(classes: &FirstClasses<'_>, words: &mut Words) -> Option<ClassNo>
+    ensures { IsNextWord (next_class classes.now (words_of_line words.old))
+        (words_of_line words.new) result }
+{
+    let word = words.next_word()?;
+    class_at(classes, word)
+}
+
+// Returns the class with this name. A number names none.
+pub(crate) fn class_at(classes: &FirstClasses<'_>, word: &[u8]) -> Option<ClassNo>
+    ensures { result ≡ unless_number word.now (class_named classes.now word.now) }
+{
+    match number_of(word) {
+        Some(_) => None,
+        None => class_named(classes, word),
+    }
 }

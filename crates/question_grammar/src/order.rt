@@ -48,18 +48,6 @@ pub fn order_in(
     }
 }
 
-// Returns the event that a line asks for by a name, as an order. Fails if an allocation for a class fails.
-fn act_in(alloc: Global, world: &World, line: &[u8]) -> Result<Option<Order>, AllocError>
-    ensures { MatchResult result
-        (λ order. order ≡ option_map Act (event_of_words world.now (words_of_line line.now)))
-        (λ _. MayTakeMemory (option_map Act (event_of_words world.now (words_of_line line.now)))) }
-{
-    match event_in(alloc, world, line)? {
-        Some(event) => Ok(Some(Order::Act(event))),
-        None => Ok(None),
-    }
-}
-
 // Returns what the words ask to be done without a name.
 #[tactic(auto, unfolding(crate::specs::Orders::order_of_words))]
 fn order_of_words(bookmarks: &Bookmarks, mut words: Words) -> Option<Order>
@@ -122,4 +110,16 @@ fn way_on_to(bookmarks: &Bookmarks, word: &[u8]) -> Option<Order>
 {
     let place = place_of_word(bookmarks, word)??;
     Some(Order::ForwardTo(place))
+}
+
+// Returns the event that a line asks for by a name, as an order. Fails if an allocation for a class fails.
+fn act_in(alloc: Global, world: &World, line: &[u8]) -> Result<Option<Order>, AllocError>
+    ensures { MatchResult result
+        (λ order. order ≡ option_map Act (event_of_words world.now (words_of_line line.now)))
+        (λ _. MayTakeMemory (option_map Act (event_of_words world.now (words_of_line line.now)))) }
+{
+    match event_in(alloc, world, line)? {
+        Some(event) => Ok(Some(Order::Act(event))),
+        None => Ok(None),
+    }
 }

@@ -6,7 +6,7 @@ use Rattle.heap_questions.specs.declared.region_counts.RegionCounts.{RegionCount
 use Rattle.heap_questions.specs.RegionCounts.{counts_of}
 use Rattle.session_text.specs.Replies.{and_number}
 use Rattle.question_rows.specs.RegionLists.{and_objects, counted_text, waits_words}
-use Rattle.question_rows.proofs.ClassRows.{joined}
+use Rattle.question_rows.proofs.ClassRows.{both_appended}
 
 pub size_told : (regions : List Region) (r : ℕ) (u : UsedRegion) → used_at regions r ≡ Some u → unwrap_or (option_map (λ (u : UsedRegion). u.cell_size) (used_at regions r)) 0 ≡ u.cell_size
 size_told regions r u e = ap (λ (x : Option UsedRegion). unwrap_or (option_map (λ (u : UsedRegion). u.cell_size) x) 0) e
@@ -20,7 +20,7 @@ pub counted_line : (r size : ℕ) (waits : Bool) (counts : RegionCounts) (u : Us
 unfolding counted_text
 counted_line r size waits counts u old t1 t2 t3 text s w c e1 e2 e3 e4 =
     let row = codes "row" ++ and_number r in
-    let h2 = joined old row (and_number size) t1 t2 e1 e2 in
-    let h3 = joined old (row ++ and_number size) (and_objects counts) t2 t3 h2 e3 in
-    joined old ((row ++ and_number size) ++ and_objects counts) (waits_words waits) t3 text h3 e4
+    let h2 = both_appended old row (and_number size) t1 t2 e1 e2 in
+    let h3 = both_appended old (row ++ and_number size) (and_objects counts) t2 t3 h2 e3 in
+    both_appended old ((row ++ and_number size) ++ and_objects counts) (waits_words waits) t3 text h3 e4
     ∙ (λ i. old ++ (((row ++ and_number (s i)) ++ and_objects (c i)) ++ waits_words (w i)))

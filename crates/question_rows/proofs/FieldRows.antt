@@ -10,7 +10,7 @@ use Rattle.heap_class.specs.declared.Kind.{Kind}
 use Rattle.heap_class.specs.Classes.{Class, fields_of, sup_of}
 use Rattle.hprof_text.proofs.Loops.{item_of_list_within}
 use Rattle.question_rows.specs.ClassLists.{and_fields, field_words}
-use Rattle.question_rows.specs.Objects.{field_row, field_rows, joined}
+use Rattle.question_rows.specs.Objects.{field_row, field_rows, rows_joined}
 use Rattle.question_words.specs.Names.{fields_up}
 use Rattle.question_rows.proofs.SlotRows.{drop_both}
 use Rattle.question_words.proofs.FieldsAbove.{fields_more}
@@ -113,15 +113,15 @@ rows_of_class cs n m a f own ws e q =
     ∙ rows_append f (fields_of cs a) (fields_up cs m (sup_of cs a)) (drop f ws) own (f + own) (q ∙ ap (min (length (fields_of cs a))) (sym (length-drop f ws))) refl
     ∙ ap (λ vs. field_rows f (fields_of cs a) (drop f ws) ++ field_rows (f + own) (fields_up cs m (sup_of cs a)) vs) (drop-drop own f ws)
 
--- the same without the first k rows, joined
+-- the same without the first k rows, one after another
 pub part_of_class : (cs : List Class) (n m a f own k j : ℕ) (ws : List ℕ) → n ≡ m + 1 → own ≡ min (length (fields_of cs a)) (length ws - f) → j ≡ k - own
-    → joined (drop k (field_rows f (fields_up cs n (Some a)) (drop f ws))) ≡ joined (drop k (field_rows f (fields_of cs a) (drop f ws))) ++ joined (drop j (field_rows (f + own) (fields_up cs m (sup_of cs a)) (drop (f + own) ws)))
+    → rows_joined (drop k (field_rows f (fields_up cs n (Some a)) (drop f ws))) ≡ rows_joined (drop k (field_rows f (fields_of cs a) (drop f ws))) ++ rows_joined (drop j (field_rows (f + own) (fields_up cs m (sup_of cs a)) (drop (f + own) ws)))
 part_of_class cs n m a f own k j ws e q h =
     let here = field_rows f (fields_of cs a) (drop f ws) in
     let above = field_rows (f + own) (fields_up cs m (sup_of cs a)) (drop (f + own) ws) in
     let long = length_rows f (fields_of cs a) (drop f ws) in
     let rest = length-drop f ws in
     let same : k - length here ≡ j = omega (arith, long, rest, q, h) in
-    ap (λ rows. joined (drop k rows)) (rows_of_class cs n m a f own ws e q)
-    ∙ ap joined (drop_both k here above ∙ ap (λ i. drop k here ++ drop i above) same)
+    ap (λ rows. rows_joined (drop k rows)) (rows_of_class cs n m a f own ws e q)
+    ∙ ap rows_joined (drop_both k here above ∙ ap (λ i. drop k here ++ drop i above) same)
     ∙ flat_map-append (λ (row : List ℕ). row) (drop k here) (drop j above)

@@ -5,7 +5,7 @@ use Rattle.heap_class.specs.declared.Refusal.{Refusal}
 use Rattle.heap_class.specs.declared.Refusal.TheVariants.{NoMemory, TooLarge}
 use Rattle.heap_class.specs.Classes.{Class}
 use Rattle.hprof_text.specs.Image.{DumpedObject, Image}
-use Rattle.question_rows.specs.Objects.{joined}
+use Rattle.question_rows.specs.Objects.{rows_joined}
 use Rattle.question_rows.specs.Trees.{branch, branches, object_at_slot, tree_row, tree_rows}
 use Rattle.question_rows.proofs.TreeRows.{branch_alone, branch_with, branches_on, branches_within, rows_below, slot_text, text_on, tree_is}
 use Rattle.std.specs.Prelude.{◌⊎◌}
@@ -41,13 +41,13 @@ room_alone n image level o k room left first alone is one =
     omega (arith, branches_longer n image level o k, size, is, one)
 
 pub text_alone : (n : ℕ) (image : Image) (classes : List Class) (level : ℕ) (o : DumpedObject) (k : ℕ) (first text new : List ℕ) → classes ≡ image.classes → (n ≡ 0) ⊎ (object_at_slot image o k ≡ None)
-    → text ≡ first ++ joined (branches (rows_below n image level) image level o k) → new ≡ text ++ tree_row classes level o k (object_at_slot image o k)
-    → new ≡ first ++ joined (branches (rows_below n image level) image level o (k + 1))
+    → text ≡ first ++ rows_joined (branches (rows_below n image level) image level o k) → new ≡ text ++ tree_row classes level o k (object_at_slot image o k)
+    → new ≡ first ++ rows_joined (branches (rows_below n image level) image level o (k + 1))
 text_alone n image classes level o k first text new same alone is more =
     let row = tree_row classes level o k (object_at_slot image o k) in
     let b = branch_alone n image level o k row (ap (λ (cs : List Class). tree_row cs level o k (object_at_slot image o k)) same) alone in
     text_on (rows_below n image level) image level o k first text new is
-    (slot_text row [] text new new more (sym (append-nil new)) ∙ ap (λ (rows : List (List ℕ)). text ++ joined rows) (sym b))
+    (slot_text row [] text new new more (sym (append-nil new)) ∙ ap (λ (rows : List (List ℕ)). text ++ rows_joined rows) (sym b))
 
 -- the row of a slot was appended, and those of the object that it names
 pub room_with : (n m : ℕ) (image : Image) (level : ℕ) (o p : DumpedObject) (k room left rest first : ℕ) → n ≡ m + 1 → object_at_slot image o k ≡ Some p
@@ -58,13 +58,13 @@ room_with n m image level o p k room left rest first down named is one further =
     omega (arith, branches_longer n image level o k, size, is, one, further)
 
 pub text_with : (n m : ℕ) (image : Image) (classes : List Class) (level : ℕ) (o p : DumpedObject) (k : ℕ) (first text between new : List ℕ) → classes ≡ image.classes → n ≡ m + 1 → object_at_slot image o k ≡ Some p
-    → text ≡ first ++ joined (branches (rows_below n image level) image level o k) → between ≡ text ++ tree_row classes level o k (object_at_slot image o k) → new ≡ between ++ joined (tree_rows m image (level + 1) p)
-    → new ≡ first ++ joined (branches (rows_below n image level) image level o (k + 1))
+    → text ≡ first ++ rows_joined (branches (rows_below n image level) image level o k) → between ≡ text ++ tree_row classes level o k (object_at_slot image o k) → new ≡ between ++ rows_joined (tree_rows m image (level + 1) p)
+    → new ≡ first ++ rows_joined (branches (rows_below n image level) image level o (k + 1))
 text_with n m image classes level o p k first text between new same down named is more further =
     let row = tree_row classes level o k (object_at_slot image o k) in
     let b = branch_with n m image level o p k row down (ap (λ (cs : List Class). tree_row cs level o k (object_at_slot image o k)) same) named in
     text_on (rows_below n image level) image level o k first text new is
-    (slot_text row (tree_rows m image (level + 1) p) text between new more further ∙ ap (λ (rows : List (List ℕ)). text ++ joined rows) (sym b))
+    (slot_text row (tree_rows m image (level + 1) p) text between new more further ∙ ap (λ (rows : List (List ℕ)). text ++ rows_joined rows) (sym b))
 
 -- ---- what is known of one turn
 

@@ -6,7 +6,7 @@ use Rattle.std.specs.Option.{option_map_or}
 use Rattle.std.proofs.lemmas.List.{append-nil, length-append}
 use Rattle.std.proofs.lemmas.List.Concat.{flat_map-append}
 use Rattle.hprof_text.specs.Image.{DumpedObject, Image}
-use Rattle.question_rows.specs.Objects.{joined}
+use Rattle.question_rows.specs.Objects.{rows_joined}
 use Rattle.question_rows.specs.Trees.{branch, branches, object_at_slot, tree_row, tree_rows}
 
 -- what is told of an object that a slot names, n levels down
@@ -86,20 +86,20 @@ branch_with n m image level o p k row down is e =
     ∙ ap (λ (named : Option DumpedObject). tree_row image.classes level o k (object_at_slot image o k) ∷ option_map_or (rows_below (suc m) image level) named []) e
     ∙ ap (λ r. r ∷ tree_rows m image (level + 1) p) (sym is)
 
-joined_both : (rows others : List (List ℕ)) → joined (rows ++ others) ≡ joined rows ++ joined others
+joined_both : (rows others : List (List ℕ)) → rows_joined (rows ++ others) ≡ rows_joined rows ++ rows_joined others
 joined_both rows others = flat_map-append (λ (row : List ℕ). row) rows others
 
 -- a text with the rows up to a slot, and then those of the slot
-pub text_on : (below : DumpedObject → List (List ℕ)) (image : Image) (level : ℕ) (o : DumpedObject) (k : ℕ) (first text new : List ℕ) → text ≡ first ++ joined (branches below image level o k) → new ≡ text ++ joined (branch below image level o k)
-    → new ≡ first ++ joined (branches below image level o (k + 1))
+pub text_on : (below : DumpedObject → List (List ℕ)) (image : Image) (level : ℕ) (o : DumpedObject) (k : ℕ) (first text new : List ℕ) → text ≡ first ++ rows_joined (branches below image level o k) → new ≡ text ++ rows_joined (branch below image level o k)
+    → new ≡ first ++ rows_joined (branches below image level o (k + 1))
 text_on below image level o k first text new is more =
     let rows = branches below image level o k in
     let others = branch below image level o k in
     more
-    ∙ ap (λ t. t ++ joined others) is
-    ∙ append_assoc first (joined rows) (joined others)
-    ∙ ap (λ t. first ++ t) (sym (joined_both rows others) ∙ ap (λ l. joined l) (sym (branches_on below image level o k)))
+    ∙ ap (λ t. t ++ rows_joined others) is
+    ∙ append_assoc first (rows_joined rows) (rows_joined others)
+    ∙ ap (λ t. first ++ t) (sym (joined_both rows others) ∙ ap (λ l. rows_joined l) (sym (branches_on below image level o k)))
 
 -- the text of a slot's rows: its own row, and those of the object that it names
-pub slot_text : (row : List ℕ) (rows : List (List ℕ)) (text between new : List ℕ) → between ≡ text ++ row → new ≡ between ++ joined rows → new ≡ text ++ joined (row ∷ rows)
-slot_text row rows text between new is more = more ∙ ap (λ t. t ++ joined rows) is ∙ append_assoc text row (joined rows)
+pub slot_text : (row : List ℕ) (rows : List (List ℕ)) (text between new : List ℕ) → between ≡ text ++ row → new ≡ between ++ rows_joined rows → new ≡ text ++ rows_joined (row ∷ rows)
+slot_text row rows text between new is more = more ∙ ap (λ t. t ++ rows_joined rows) is ∙ append_assoc text row (rows_joined rows)

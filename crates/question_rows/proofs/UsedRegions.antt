@@ -11,7 +11,7 @@ use Rattle.heap_world.specs.State.{HeapState}
 use Rattle.heap_mark.specs.MarkSteps.{pending_regions}
 use Rattle.heap_questions.proofs.Passing.{one_more_number}
 use Rattle.session_text.specs.Replies.{and_number, line}
-use Rattle.question_rows.proofs.ClassRows.{joined}
+use Rattle.question_rows.proofs.ClassRows.{both_appended}
 use Rattle.question_rows.specs.CellLists.{cell_letters, region_text, sweep_words, used_text}
 
 -- those of the first n regions that are in use
@@ -53,10 +53,10 @@ region_row w r size waits e p = go (used_at w.regions r) e p
 -- the pieces of its line, one after another
 pub region_line : (old row size sweep letters t1 t2 t3 t4 text : List ℕ) → t1 ≡ old ++ row → t2 ≡ t1 ++ size → t3 ≡ t2 ++ sweep → t4 ≡ t3 ++ letters → text ≡ t4 ++ codes "\n" → text ≡ old ++ line (((row ++ size) ++ sweep) ++ letters)
 region_line old row size sweep letters t1 t2 t3 t4 text e1 e2 e3 e4 e5 =
-    let h2 = joined old row size t1 t2 e1 e2 in
-    let h3 = joined old (row ++ size) sweep t2 t3 h2 e3 in
-    let h4 = joined old ((row ++ size) ++ sweep) letters t3 t4 h3 e4 in
-    joined old (((row ++ size) ++ sweep) ++ letters) (codes "\n") t4 text h4 e5
+    let h2 = both_appended old row size t1 t2 e1 e2 in
+    let h3 = both_appended old (row ++ size) sweep t2 t3 h2 e3 in
+    let h4 = both_appended old ((row ++ size) ++ sweep) letters t3 t4 h3 e4 in
+    both_appended old (((row ++ size) ++ sweep) ++ letters) (codes "\n") t4 text h4 e5
 
 -- ---- regions that wait
 

@@ -70,8 +70,8 @@ end_in AllSlots n = n
 end_in (FromSlot first count) n = min first n + min count (n - min first n)
 
 -- rows, one after another
-abbrev pub joined : List (List ℕ) → List ℕ
-joined rows = flat_map (λ row. row) rows
+abbrev pub rows_joined : List (List ℕ) → List ℕ
+rows_joined rows = flat_map (λ row. row) rows
 
 -- what the last line says of an object that is marked
 abbrev pub mark_text : Bool → List ℕ
@@ -85,7 +85,7 @@ object_line classes kind n marked =
 -- the lines of an object, with the rows of these slots
 abbrev pub object_text : List Class → DumpedObject → SlotRange → Bool → List ℕ
 object_text classes o slots marked =
-    joined (rows_in slots (slot_rows classes o.kind o.words))
+    rows_joined (rows_in slots (slot_rows classes o.kind o.words))
     ++ object_line classes o.kind (length o.words) marked
 
 -- the same, if it is there

@@ -14,7 +14,7 @@ use Rattle.heap_questions.specs.Graph.{object_with}
 use Rattle.session_text.specs.Replies.{and_number, line}
 use Rattle.question_words.specs.Moments.{no_object_text, refused_text}
 use Rattle.question_words.specs.Names.{class_name, fields_up}
-use Rattle.question_rows.specs.Objects.{and_value, joined, object_line}
+use Rattle.question_rows.specs.Objects.{and_value, rows_joined, object_line}
 
 -- ---- a slot
 
@@ -89,7 +89,7 @@ row_limit = 65536
 -- these rows of an object, and its line as in `show`; or there are too many rows
 abbrev pub rows_text : List (List ℕ) → List ℕ → List ℕ
 rows_text rows last =
-    if nat_le (length rows) row_limit then joined rows ++ last else refused_text TooLarge
+    if nat_le (length rows) row_limit then rows_joined rows ++ last else refused_text TooLarge
 
 -- the same of an object and of those below it, if it is there
 abbrev pub tree_text : ℕ → Bool → Image → Option DumpedObject → List ℕ

@@ -12,7 +12,7 @@ use hprof_text::View;
 use question_words::{Unanswered, push_count};
 use std::alloc::{AllocError, Global};
 
-/// Returns the answer of `paths` about a view: up to so many paths. Fails with NoObject if the id names no object, with Unreachable
+/// Returns the answer of `paths` about a view: up to `most` paths. Fails with NoObject if the id names no object, with Unreachable
 /// if no register reaches it, and with NoMemory if an allocation fails. Reads each object a few times for each path.
 #[tactic(auto, using(crate::proofs::ListedPaths::paths_told, crate::proofs::ListedPaths::no_paths_told))]
 pub fn paths_answer<V: View>(

@@ -4,7 +4,7 @@ ghost use Rattle.heap_class.specs.Classes.{fields_of};
 ghost use Rattle.question_words.specs.Appends.{Appends, ReturnsText};
 ghost use Rattle.question_words.specs.Moments.{IsToldOf, told_text};
 ghost use Rattle.question_words.specs.Names.{IsClassThere, fields_up};
-ghost use Rattle.question_rows.specs.Objects.{IsShowText, and_value, element_row, element_rows, end_in, field_row, field_rows, first_in, is_marked, joined, mark_text, object_line, object_text, rows_in, shows_mark, slot_rows, value_text};
+ghost use Rattle.question_rows.specs.Objects.{IsShowText, and_value, element_row, element_rows, end_in, field_row, field_rows, first_in, is_marked, rows_joined, mark_text, object_line, object_text, rows_in, shows_mark, slot_rows, value_text};
 
 use heap_class::{ClassNo, FirstClasses, Kind, ObjKind, Refusal};
 use heap_questions::object_with;
@@ -60,7 +60,7 @@ fn push_slots(
 ) -> Result<(), AllocError>
     requires { IsClassThere classes.now object.now.kind }
     ensures { Appends
-        (joined (rows_in slots (slot_rows classes.now object.now.kind object.now.words)))
+        (rows_joined (rows_in slots (slot_rows classes.now object.now.kind object.now.words)))
         text.old.items text.new.items result }
 {
     let words = object.words();
@@ -94,7 +94,7 @@ fn push_rows(
     from: usize,
 ) -> Result<(), AllocError>
     requires { IsClassThere classes.now kind }
-    ensures { Appends (joined (drop from (slot_rows classes.now kind words.now)))
+    ensures { Appends (rows_joined (drop from (slot_rows classes.now kind words.now)))
         text.old.items text.new.items result }
 {
     match kind {
@@ -114,7 +114,7 @@ fn push_fields(
     from: usize,
 ) -> Result<(), AllocError>
     requires { class < length classes.now }
-    ensures { Appends (joined (drop from
+    ensures { Appends (rows_joined (drop from
         (field_rows 0 (fields_up classes.now (length classes.now) (Some class)) words.now)))
         text.old.items text.new.items result }
 {
@@ -144,7 +144,7 @@ fn push_own(
 ) -> Result<(), AllocError>
     requires there { class < length classes.now }
     requires within { first ≤ length words.now }
-    ensures { Appends (joined (drop skipped
+    ensures { Appends (rows_joined (drop skipped
         (field_rows first (fields_of classes.now class) (drop first words.now))))
         text.old.items text.new.items result }
 {
@@ -201,7 +201,7 @@ fn push_elements(
     words: &[u64],
     from: usize,
 ) -> Result<(), AllocError>
-    ensures { Appends (joined (drop from (element_rows kind 0 words.now)))
+    ensures { Appends (rows_joined (drop from (element_rows kind 0 words.now)))
         text.old.items text.new.items result }
 {
     for index in from..words.len() {

@@ -5,7 +5,7 @@ ghost use Rattle.hprof_text.specs.Image.{IsDumpable, IsKnown};
 ghost use Rattle.question_words.specs.Appends.{Appends};
 ghost use Rattle.question_words.specs.Moments.{IsToldOf, refused_text, told_text};
 ghost use Rattle.question_words.specs.Names.{IsClassThere};
-ghost use Rattle.question_rows.specs.Objects.{joined, object_line};
+ghost use Rattle.question_rows.specs.Objects.{rows_joined, object_line};
 ghost use Rattle.question_rows.specs.Trees.{IsTreeText, and_class, and_kind_and_value, and_slot_name, kind_at, object_at_slot, row_limit, rows_text, slot_name, tree_row, tree_rows};
 
 use crate::show::{push_object, push_value};
@@ -88,7 +88,7 @@ fn push_level<V: View>(
     requires known { IsKnown classes.now object.now.kind (length object.now.words) }
     requires levels { level + below < 2 ^ 64 }
     ensures text { OnOk result (rows.new.text.items
-        ≡ rows.old.text.items ++ joined (tree_rows below index.now level object.now)) }
+        ≡ rows.old.text.items ++ rows_joined (tree_rows below index.now level object.now)) }
     ensures room { OnOk result (rows.new.room + length (tree_rows below index.now level object.now)
         ≡ rows.old.room) }
     ensures refused { IfErr result

@@ -45,14 +45,14 @@ names_nothing bm state v ws = refl
 
 -- ---- the grammar of sessions
 
-by_words : (ws : List (List ℕ)) → is_comment_words ws ≡ true → command_of_words ws ≡ Bad
-by_words [] e = absurd (cc e)
-by_words ([] ∷ ws) e = absurd (cc e)
-by_words ((b ∷ v) ∷ ws) e =
+comment_words_are_bad : (ws : List (List ℕ)) → is_comment_words ws ≡ true → command_of_words ws ≡ Bad
+comment_words_are_bad [] e = absurd (cc e)
+comment_words_are_bad ([] ∷ ws) e = absurd (cc e)
+comment_words_are_bad ((b ∷ v) ∷ ws) e =
     subst (λ (x : ℕ). command_of_words ((x ∷ v) ∷ ws) ≡ Bad) (sym (first_byte b v e)) (let none = no_rule v ws in rw none refl)
 
 pub comments_no_command : (l : List ℕ) → is_comment l ≡ true → command_of_text l ≡ Bad
-comments_no_command l e = bad_words l (by_words (words_of_line l) e)
+comments_no_command l e = bad_words l (comment_words_are_bad (words_of_line l) e)
 
 -- ---- questions, orders and bookmarks
 

@@ -16,7 +16,76 @@ abbrev pub form_of : List ℕ → List ℕ → List ℕ → List ℕ → LineFor
 form_of key form example words =
     record { key = key; form = form; example = example; words = words }
 
--- questions, `collect`, `forward`, `at`, `name` and `help`
+-- questions about the current state alone; and `collect`, `forward`, `at`, `name` and `help`
+unfoldable pub session_forms : List LineForm
+session_forms =
+    form_of (codes "pins") (codes "pins") (codes "pins")
+    (codes "the open pins")
+    ∷ form_of (codes "cells") (codes "cells") (codes "cells")
+    (codes "what each cell of the regions in use holds")
+    ∷ form_of (codes "regions") (codes "regions") (codes "regions")
+    (codes "how many objects each region in use has")
+    ∷ form_of (codes "status") (codes "status") (codes "status")
+    (codes "the place, the phase, and what is left to collect")
+    ∷ form_of (codes "collect") (codes "collect") (codes "collect")
+    (codes "takes the steps of a whole cycle, and sweeps")
+    ∷ form_of (codes "forward") (codes "forward N|@P") (codes "forward 1")
+    (codes "takes N undone steps again, or those up to place P")
+    ∷ form_of (codes "at") (codes "at -|@P") (codes "at @120")
+    (codes "sets the state of questions that name none")
+    ∷ form_of (codes "name") (codes "name WORD") (codes "name start")
+    (codes "names the current place, for which @WORD stands then")
+    ∷ form_of (codes "help") (codes "help WORD") (codes "help path")
+    (codes "all forms; or one form, an example and what it does; help formats: what words mean")
+    ∷ []
+
+-- questions about what retained steps did, and the lines above
+unfoldable pub past_forms : List LineForm
+past_forms =
+    form_of (codes "born") (codes "born [@PLACE] ID") (codes "born 0x10000020")
+    (codes "the step that made an object")
+    ∷ form_of (codes "wrote") (codes "wrote [@PLACE] ID SLOT") (codes "wrote 0x10000020 next")
+    (codes "the newest step that changed a slot")
+    ∷ form_of (codes "watch") (codes "watch ID SLOT [@PLACE]") (codes "watch 0x10000020 next")
+    (codes "each retained step that changed a slot")
+    ∷ form_of (codes "writes") (codes "writes CLASS SLOT [@PLACE [@PLACE]]")
+    (codes "writes server/Entry state")
+    (codes "each retained step that changed a slot of some object of a class")
+    ∷ form_of (codes "when") (codes "when (CLASS SLOT VALUE | count CLASS N) [@PLACE [@PLACE]]")
+    (codes "when server/Entry state 42")
+    (codes "the first place at which an object of a class has a value, or the class has N objects")
+    ∷ form_of (codes "dropped") (codes "dropped [@PLACE] ID") (codes "dropped 0x10000020")
+    (codes "the step since which no register reaches an object")
+    ∷ form_of (codes "life") (codes "life ID") (codes "life 0x10000020")
+    (codes "what became of each object that had this ID")
+    ∷ form_of (codes "history") (codes "history [@PLACE] N") (codes "history 10")
+    (codes "what the newest N steps did and overwrote")
+    ∷ form_of (codes "cycles") (codes "cycles") (codes "cycles")
+    (codes "each cycle that ended, and how many objects it condemned and sweeps removed")
+    ∷ session_forms
+
+-- questions about an object of a state, and the lines above
+unfoldable pub object_forms : List LineForm
+object_forms =
+    form_of (codes "referrers") (codes "referrers [AT] ID") (codes "referrers - 0x10000020")
+    (codes "the registers and slots that name an object")
+    ∷ form_of (codes "path") (codes "path [AT] ID") (codes "path @120 0x10000020")
+    (codes "a shortest path from a register to an object")
+    ∷ form_of (codes "paths") (codes "paths [AT] ID N") (codes "paths 0x10000020 10")
+    (codes "up to N paths to an object of which no two start alike")
+    ∷ form_of (codes "retained") (codes "retained [AT] ID") (codes "retained 0x10000020")
+    (codes "what is reached only through an object, by class")
+    ∷ form_of (codes "dominators") (codes "dominators [AT] [ID] [N]")
+    (codes "dominators 0x10000020 10")
+    (codes "what is retained by each object that no other dominates, or none but one with this ID")
+    ∷ form_of (codes "dominator") (codes "dominator [AT] ID") (codes "dominator 0x10000020")
+    (codes "the objects that dominate an object, the nearest first")
+    ∷ form_of (codes "show") (codes "show [AT] ID[.FIELD ..] [DEPTH | FROM N]")
+    (codes "show 0x10000020.next 2")
+    (codes "the slots of an object; with DEPTH also those of the objects below it")
+    ∷ past_forms
+
+-- questions about all objects of one or two states, and the lines above
 unfoldable pub question_forms : List LineForm
 question_forms =
     form_of (codes "histogram") (codes "histogram [AT]") (codes "histogram -")
@@ -38,61 +107,7 @@ question_forms =
     (codes "each object, or each of a class, or of these each that has a value in a slot")
     ∷ form_of (codes "values") (codes "values [AT] CLASS SLOT") (codes "values server/Entry state")
     (codes "the values of a slot in the objects of a class, and how many have each")
-    ∷ form_of (codes "referrers") (codes "referrers [AT] ID") (codes "referrers - 0x10000020")
-    (codes "the registers and slots that name an object")
-    ∷ form_of (codes "path") (codes "path [AT] ID") (codes "path @120 0x10000020")
-    (codes "a shortest path from a register to an object")
-    ∷ form_of (codes "paths") (codes "paths [AT] ID N") (codes "paths 0x10000020 10")
-    (codes "up to N paths to an object of which no two start alike")
-    ∷ form_of (codes "retained") (codes "retained [AT] ID") (codes "retained 0x10000020")
-    (codes "what is reached only through an object, by class")
-    ∷ form_of (codes "dominators") (codes "dominators [AT] [ID] [N]")
-    (codes "dominators 0x10000020 10")
-    (codes "what is retained by each object that no other dominates, or none but one with this ID")
-    ∷ form_of (codes "dominator") (codes "dominator [AT] ID") (codes "dominator 0x10000020")
-    (codes "the objects that dominate an object, the nearest first")
-    ∷ form_of (codes "show") (codes "show [AT] ID[.FIELD ..] [DEPTH | FROM N]")
-    (codes "show 0x10000020.next 2")
-    (codes "the slots of an object; with DEPTH also those of the objects below it")
-    ∷ form_of (codes "born") (codes "born [@PLACE] ID") (codes "born 0x10000020")
-    (codes "the step that made an object")
-    ∷ form_of (codes "wrote") (codes "wrote [@PLACE] ID SLOT") (codes "wrote 0x10000020 next")
-    (codes "the newest step that changed a slot")
-    ∷ form_of (codes "watch") (codes "watch ID SLOT [@PLACE]") (codes "watch 0x10000020 next")
-    (codes "each retained step that changed a slot")
-    ∷ form_of (codes "writes") (codes "writes CLASS SLOT [@PLACE [@PLACE]]")
-    (codes "writes server/Entry state")
-    (codes "each retained step that changed a slot of some object of a class")
-    ∷ form_of (codes "when") (codes "when (CLASS SLOT VALUE | count CLASS N) [@PLACE [@PLACE]]")
-    (codes "when server/Entry state 42")
-    (codes "the first place at which an object of a class has a value, or the class has N objects")
-    ∷ form_of (codes "dropped") (codes "dropped [@PLACE] ID") (codes "dropped 0x10000020")
-    (codes "the step since which no register reaches an object")
-    ∷ form_of (codes "life") (codes "life ID") (codes "life 0x10000020")
-    (codes "what became of each object that had this ID")
-    ∷ form_of (codes "history") (codes "history [@PLACE] N") (codes "history 10")
-    (codes "what the newest N steps did and overwrote")
-    ∷ form_of (codes "cycles") (codes "cycles") (codes "cycles")
-    (codes "each cycle that ended, and how many objects it condemned and sweeps removed")
-    ∷ form_of (codes "pins") (codes "pins") (codes "pins")
-    (codes "the open pins")
-    ∷ form_of (codes "cells") (codes "cells") (codes "cells")
-    (codes "what each cell of the regions in use holds")
-    ∷ form_of (codes "regions") (codes "regions") (codes "regions")
-    (codes "how many objects each region in use has")
-    ∷ form_of (codes "status") (codes "status") (codes "status")
-    (codes "the place, the phase, and what is left to collect")
-    ∷ form_of (codes "collect") (codes "collect") (codes "collect")
-    (codes "takes the steps of a whole cycle, and sweeps")
-    ∷ form_of (codes "forward") (codes "forward N|@P") (codes "forward 1")
-    (codes "takes N undone steps again, or those up to place P")
-    ∷ form_of (codes "at") (codes "at -|@P") (codes "at @120")
-    (codes "sets the state of questions that name none")
-    ∷ form_of (codes "name") (codes "name WORD") (codes "name start")
-    (codes "names the current place, for which @WORD stands then")
-    ∷ form_of (codes "help") (codes "help WORD") (codes "help path")
-    (codes "all forms; or one form, an example and what it does; help formats: what words mean")
-    ∷ []
+    ∷ object_forms
 
 -- lines of the collector, of the trail, of pins and of the session, and those above
 unfoldable pub act_forms : List LineForm

@@ -18,7 +18,7 @@ name_limit_text = codes "no 30 NameLimit\n"
 abbrev pub Notes : Type 1
 Notes = Bookmarks → List ℕ → Bookmarks → Type 0
 
--- the place of questions that name no state is set, as its state was so many steps ago; or it isn't retained
+-- the place of questions that name no state is set, if its state is retained, which was current `ago` steps ago; or it isn't set
 abbrev pub SetsPlaceBy : Result ℕ Refusal → Option ℕ → Trail → Notes
 SetsPlaceBy (Ok ago) to t b text b' =
     (text ≡ place_text (unwrap_or to t.place)) × (b' ≡ record b { at = to })

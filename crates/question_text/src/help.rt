@@ -3,7 +3,7 @@ ghost use Rattle.std.specs.Prelude.{◌≡◌};
 ghost use Rattle.std.specs.Option.{option_map};
 ghost use Rattle.session_grammar.specs.Grammar.{words_of_line};
 ghost use Rattle.session_text.specs.Replies.{line_answer_text};
-ghost use Rattle.question_text.specs.Help.{act_forms, all_forms, form_with, formats_text, help_about, help_of, help_on, help_or_bad, help_rows, help_text, question_forms};
+ghost use Rattle.question_text.specs.Help.{act_forms, all_forms, form_with, formats_text, help_about, help_of, help_on, help_or_bad, help_rows, help_text, object_forms, past_forms, question_forms, session_forms};
 
 use session_grammar::by_word;
 use session_grammar::words::{Words, is_word};
@@ -25,6 +25,16 @@ pub fn question_help(word: &[u8]) -> Option<&'static [u8]>
         b"classes" => Some(b"row classes [AT]\nrow classes -\nrow # the classes with their supers and own fields\nok\n"),
         b"objects" => Some(b"row objects [AT] [CLASS [SLOT VALUE]]\nrow objects server/Entry state 42\nrow # each object, or each of a class, or of these each that has a value in a slot\nok\n"),
         b"values" => Some(b"row values [AT] CLASS SLOT\nrow values server/Entry state\nrow # the values of a slot in the objects of a class, and how many have each\nok\n"),
+        _ => object_help(word)
+    )
+}
+
+// Returns the same about a keyword of a question about an object, or of those below.
+#[tactic(auto, unfolding(crate::specs::Help::form_text, crate::specs::Help::form_with, crate::specs::Help::object_forms))]
+fn object_help(word: &[u8]) -> Option<&'static [u8]>
+    ensures { option_map (λ t. t.now) result ≡ form_with object_forms word.now }
+{
+    by_word!(word;
         b"referrers" => Some(b"row referrers [AT] ID\nrow referrers - 0x10000020\nrow # the registers and slots that name an object\nok\n"),
         b"path" => Some(b"row path [AT] ID\nrow path @120 0x10000020\nrow # a shortest path from a register to an object\nok\n"),
         b"paths" => Some(b"row paths [AT] ID N\nrow paths 0x10000020 10\nrow # up to N paths to an object of which no two start alike\nok\n"),
@@ -32,6 +42,16 @@ pub fn question_help(word: &[u8]) -> Option<&'static [u8]>
         b"dominators" => Some(b"row dominators [AT] [ID] [N]\nrow dominators 0x10000020 10\nrow # what is retained by each object that no other dominates, or none but one with this ID\nok\n"),
         b"dominator" => Some(b"row dominator [AT] ID\nrow dominator 0x10000020\nrow # the objects that dominate an object, the nearest first\nok\n"),
         b"show" => Some(b"row show [AT] ID[.FIELD ..] [DEPTH | FROM N]\nrow show 0x10000020.next 2\nrow # the slots of an object; with DEPTH also those of the objects below it\nok\n"),
+        _ => past_help(word)
+    )
+}
+
+// Returns the same about a keyword of a question about what retained steps did, or of those below.
+#[tactic(auto, unfolding(crate::specs::Help::form_text, crate::specs::Help::form_with, crate::specs::Help::past_forms))]
+fn past_help(word: &[u8]) -> Option<&'static [u8]>
+    ensures { option_map (λ t. t.now) result ≡ form_with past_forms word.now }
+{
+    by_word!(word;
         b"born" => Some(b"row born [@PLACE] ID\nrow born 0x10000020\nrow # the step that made an object\nok\n"),
         b"wrote" => Some(b"row wrote [@PLACE] ID SLOT\nrow wrote 0x10000020 next\nrow # the newest step that changed a slot\nok\n"),
         b"watch" => Some(b"row watch ID SLOT [@PLACE]\nrow watch 0x10000020 next\nrow # each retained step that changed a slot\nok\n"),
@@ -41,6 +61,16 @@ pub fn question_help(word: &[u8]) -> Option<&'static [u8]>
         b"life" => Some(b"row life ID\nrow life 0x10000020\nrow # what became of each object that had this ID\nok\n"),
         b"history" => Some(b"row history [@PLACE] N\nrow history 10\nrow # what the newest N steps did and overwrote\nok\n"),
         b"cycles" => Some(b"row cycles\nrow cycles\nrow # each cycle that ended, and how many objects it condemned and sweeps removed\nok\n"),
+        _ => session_help(word)
+    )
+}
+
+// Returns the same about a keyword of a question about the current state alone, `collect`, `forward`, `at`, `name` or `help`.
+#[tactic(auto, unfolding(crate::specs::Help::form_text, crate::specs::Help::form_with, crate::specs::Help::session_forms))]
+fn session_help(word: &[u8]) -> Option<&'static [u8]>
+    ensures { option_map (λ t. t.now) result ≡ form_with session_forms word.now }
+{
+    by_word!(word;
         b"pins" => Some(b"row pins\nrow pins\nrow # the open pins\nok\n"),
         b"cells" => Some(b"row cells\nrow cells\nrow # what each cell of the regions in use holds\nok\n"),
         b"regions" => Some(b"row regions\nrow regions\nrow # how many objects each region in use has\nok\n"),
@@ -96,7 +126,7 @@ fn act_help(word: &[u8]) -> Option<&'static [u8]>
 }
 
 /// Returns what `help` answers: a row with the form of each line. Takes no memory.
-#[tactic(auto, unfolding(crate::specs::Help::help_text, crate::specs::Help::write_forms, crate::specs::Help::act_forms, crate::specs::Help::question_forms))]
+#[tactic(auto, unfolding(crate::specs::Help::help_text, crate::specs::Help::write_forms, crate::specs::Help::act_forms, crate::specs::Help::question_forms, crate::specs::Help::object_forms, crate::specs::Help::past_forms, crate::specs::Help::session_forms))]
 pub fn all_help() -> &'static [u8]
     ensures { result.now ≡ help_text }
 {

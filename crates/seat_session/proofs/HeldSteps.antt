@@ -165,12 +165,12 @@ taken_under_lock config order e k s s' text seen' is h =
 
 -- nothing is done for a line of which reading takes memory, if there is none
 unread_held : (config : HeapSettings) (order : Option Order) (line : List ℕ) (k last : LockState) (s s' : SeatModel) (b : Bookmarks) (text : List ℕ) → MayTakeMemory order → IsRefusedHeld NoMemory k s text last s' → AnswersHeld config order line k s b text last s' b
-unread_held config None line k last s s' b text h no = absurd h
-unread_held config (Some Collect) line k last s s' b text h no = absurd h
-unread_held config (Some (RewindTo place)) line k last s s' b text h no = absurd h
-unread_held config (Some (Forward n)) line k last s s' b text h no = absurd h
-unread_held config (Some (ForwardTo place)) line k last s s' b text h no = absurd h
-unread_held config (Some (Act e)) line k last s s' b text h no = (inr (h, no), refl)
+unread_held config None line k last s s' b text h refused = absurd h
+unread_held config (Some Collect) line k last s s' b text h refused = absurd h
+unread_held config (Some (RewindTo place)) line k last s s' b text h refused = absurd h
+unread_held config (Some (Forward n)) line k last s s' b text h refused = absurd h
+unread_held config (Some (ForwardTo place)) line k last s s' b text h refused = absurd h
+unread_held config (Some (Act e)) line k last s s' b text h refused = (inr (h, refused), refl)
 
 pub unread_under_lock : (config : HeapSettings) (order : Option Order) (line : List ℕ) (k : LockState) (s s' : SeatModel) (b : Bookmarks) (text : List ℕ) (seen' : List Call) → MayTakeMemory order
     → LeavesSeen config (λ (last : LockState). IsRefusedHeld NoMemory k s text last s') s' seen' → LeavesSeen config (λ (last : LockState). AnswersHeld config order line k s b text last s' b) s' seen'

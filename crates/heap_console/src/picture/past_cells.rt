@@ -46,7 +46,7 @@ impl PastCells {
         Ok(cells)
     }
 
-    // Puts an object of so many words and this colour into its cell.
+    // Puts an object of `words` words and this colour into its cell.
     fn put(&mut self, at: ObjRef, words: u64, color: usize) {
         let region = at.region as usize;
         if region < self.sizes.len() {
@@ -64,7 +64,7 @@ fn number_of(at: ObjRef) -> usize {
     at.region as usize * CELLS_EACH + at.cell as usize
 }
 
-// Returns the size of the cell of an object of so many words.
+// Returns the size of the cell of an object of `words` words.
 fn cell_size_for(words: u64) -> u64 {
     if words <= 4 {
         4

@@ -32,8 +32,8 @@ path_at-requires g c =
     subst (λ (registers : List ℕ). b.number / slot_span < length registers) (sym c.registers.ensures)
     (register_within image (b.number / slot_span) ((b.number % slot_span) ∷ slots_of w.0) c.args.id path)
 
-pub returns-in-Some-clause-next : goal.returns-in-Some-clause-next
-returns-in-Some-clause-next g c =
+pub returns-in_ok-add_way-in-Some-clause-next : goal.returns-in_ok-add_way-in-Some-clause-next
+returns-in_ok-add_way-in-Some-clause-next g c =
     let image = g.V.View.image c.args.view.now in
     let earlier = map route_of c.args.paths.now in
     let other = with_starts image earlier in
@@ -47,8 +47,8 @@ returns-in-Some-clause-next g c =
     subst (λ (p : Route). IsNextPath image earlier c.args.id p) (sym (route_is path (b.number / slot_span) ((b.number % slot_span) ∷ slots_of w.0) c.path_at.ensures.register (ap slots_of hops)))
     (next_by_slot image earlier c.args.id b.number (slots_of w.0) c.classes-classes.ensures.limits c.requires.used found)
 
-pub returns-in-Some-clause-ids : goal.returns-in-Some-clause-ids
-returns-in-Some-clause-ids g c =
+pub returns-in_ok-add_way-in-Some-clause-ids : goal.returns-in_ok-add_way-in-Some-clause-ids
+returns-in_ok-add_way-in-Some-clause-ids g c =
     let image = g.V.View.image c.args.view.now in
     let earlier = map route_of c.args.paths.now in
     let other = with_starts image earlier in

@@ -8,11 +8,11 @@ use Rattle.heap_questions.specs.declared.paths.Path.{Path}
 use Rattle.heap_questions.proofs.PathStarts.{next_more}
 use Rattle.heap_questions.proofs.apart.paths_apart.Goals as goal
 
-pub loop-alloc-preserved : goal.loop-alloc-preserved
-loop-alloc-preserved g c =
+pub loop-known-preserved : goal.loop-known-preserved
+loop-known-preserved g c =
     let image = g.V.View.image c.args.view.now in
     let x = c.args.id in
-    let old = c.loop-alloc.paths.items in
+    let old = c.loop-known.paths.items in
     let path = c.in-Some.path in
     let slice = c.as_slice.result.now in
     let added = c.in_ok-push-in-Some.ensures.items in
@@ -20,7 +20,7 @@ loop-alloc-preserved g c =
     let told = subst (λ (o : Option Path). IfSome o (TellsIds image)) c.in-Some.is c.in_ok-path.ensures.ids in
     let here = subst (λ (ps : List Path). IsNextPath image (map route_of ps) x (route_of path)) c.as_slice.ensures.value found in
     record {
-      next = next_more image x (map route_of old) (map route_of c.push.new.self.items) (route_of path) (ap (map route_of) added ∙ map_push route_of old path) c.loop-alloc.invariant.next here;
-      few = omega (arith, ap length added, length_push old path, c.loop-alloc-test.true);
-      ids = subst (All (TellsIds image)) (sym added) (All-push (TellsIds image) old path c.loop-alloc.invariant.ids told);
+      next = next_more image x (map route_of old) (map route_of c.push.new.self.items) (route_of path) (ap (map route_of) added ∙ map_push route_of old path) c.loop-known.invariant.next here;
+      few = omega (arith, ap length added, length_push old path, c.loop-known-test.true);
+      ids = subst (All (TellsIds image)) (sym added) (All-push (TellsIds image) old path c.loop-known.invariant.ids told);
     }

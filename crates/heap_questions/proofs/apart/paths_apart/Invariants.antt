@@ -4,13 +4,13 @@ use Rattle.heap_questions.specs.Hops.{TellsIds}
 use Rattle.heap_questions.specs.PathsApart.{IsNextPath, Route, route_of}
 use Rattle.heap_questions.proofs.apart.paths_apart.Given as goal
 
-abbrev pub invariant-loop-alloc : goal.invariant-loop-alloc
-invariant-loop-alloc g l =
+abbrev pub invariant-loop-known : goal.invariant-loop-known
+invariant-loop-known g l =
     record {
       next : (k : ℕ) (p : Route) → slice_get (map route_of l.paths.items) k ≡ Some p → IsNextPath (g.V.View.image l.view) (take k (map route_of l.paths.items)) l.id p;
       few : length l.paths.items ≤ l.most;
       ids : All (TellsIds (g.V.View.image l.view)) l.paths.items;
     }
 
-abbrev pub decreases-loop-alloc : goal.decreases-loop-alloc
-decreases-loop-alloc g l = l.most - length l.paths.items
+abbrev pub decreases-loop-known : goal.decreases-loop-known
+decreases-loop-known g l = l.most - length l.paths.items

@@ -1,4 +1,4 @@
-use Rattle.std.proofs.Common.{inl, inr, refl, rules}
+use Rattle.std.proofs.Common.{◌∙◌, ◌∷◌, [], ap, inl, inr, refl, rules, sym}
 use Rattle.heapdbg.proofs.page_exploration.explore_opened.Goals as goal
 
 pub returns-in-Ok : goal.returns-in-Ok
@@ -9,7 +9,7 @@ returns-in-Ok g c =
       c.serve_beside_page-served.new.commands,
       (
         c.new-seat.result,
-        record { made = c.args.blank; is = c.requires.made; only = search rules; legal = c.new-seat.ensures.legal; unnamed = c.new-seat.ensures.unnamed },
+        record { made = c.args.blank; is = c.requires.made; only = sym c.open-shared.ensures ∙ c.only_seat.ensures.only ∙ ap (λ s. s ∷ []) (sym c.new-seat.ensures.seat); legal = c.new-seat.ensures.legal; unnamed = c.new-seat.ensures.unnamed },
         c.in_ok-seat.ensures.run,
       ),
       rw c.session_limits-limits.ensures at c.in-Ok.ensures.served,

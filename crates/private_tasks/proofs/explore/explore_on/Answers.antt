@@ -9,6 +9,6 @@ returns g c =
       c.serve_filing-ended.new.filing,
       (c.args.asking, c.requires, c.in_ok-asking.ensures.run),
       rw c.session_limits-limits.ensures at (rw c.new-filing.ensures at c.serve_filing-ended.ensures.session),
-      rw c.session_limits-limits.ensures at c.serve_filing-ended.ensures.ends,
+      rw c.session_limits-limits.ensures at (rw c.new-filing.ensures at c.serve_filing-ended.ensures.ends),
       c.outcome.ensures,
     )

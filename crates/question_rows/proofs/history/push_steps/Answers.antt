@@ -2,7 +2,7 @@ use Rattle.std.proofs.Common.{◌≡◌, ◌∙◌, ◌++◌, List, ap, arith, g
 use Rattle.std.specs.Prelude.{flat_map}
 use Rattle.std.proofs.Math.Seq.{take-length}
 use Rattle.std.proofs.lemmas.List.{flat_map_more, take_more}
-use Rattle.heap_questions.specs.declared.past.events.PastEvent.TheVariants.{Snap}
+use Rattle.heap_questions.specs.declared.past.events.PastEvent.TheVariants.{Put}
 use Rattle.heap_questions.specs.declared.past.steps.PastStep.{PastStep}
 use Rattle.question_rows.specs.Histories.{past_step_line}
 use Rattle.question_rows.proofs.history.push_steps.Goals as goal
@@ -13,7 +13,7 @@ loop-step-preserved c =
     let old = c.args.text.now.items in
     let steps = c.args.steps.now in
     let i = c.loop-step.step-index in
-    let none : PastStep = record { place = 0; event = Snap } in
+    let none : PastStep = record { place = 0; event = Put 0 0 0 0 } in
     let one : PastStep = get_or steps i none in
     c.in_ok-push_step.ensures
     ∙ ap (λ (t : List ℕ). t ++ line one) c.loop-step.invariant

@@ -9,5 +9,5 @@ use Rattle.question_text.proofs.asking.Asking.answer_order.Goals as goal
 
 pub returns-in-Err-clause-answers : goal.returns-in-Err-clause-answers
 returns-in-Err-clause-answers c =
-    subst (λ (w : HeapState). AnswersLine (order_in c.args.self.now.bookmarks w c.args.line.now) c.args.line.now c.args.self.now (refused_text NoMemory) c.args.self.now) c.world.ensures
+    subst (λ (w : HeapState). AnswersLine (order_in c.args.self.now.bookmarks w c.args.line.now) c.args.line.now c.args.self.now (refused_text NoMemory) c.args.self.now) c.world.ensures.value
     (unread_for_no_memory _ c.args.line.now c.args.self.now c.in-Err.ensures)

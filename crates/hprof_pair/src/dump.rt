@@ -11,7 +11,7 @@ use crate::shapes::{Shape, shape_made};
 use hprof_lines::{Objects, SlotValue, add_statics, is_turn, making_event, read_object};
 use hprof_reader::SubRecord;
 use hprof_session::{Item, Walk, item_at};
-use indexmap::IndexSet;
+use id_table::IdTable;
 use std::alloc::{AllocError, Global};
 
 /// The objects of a dump.
@@ -27,7 +27,7 @@ pub struct Dump<'s, 'a> {
 pub(crate) fn collect_subs<'a>(
     alloc: Global,
     walk: Walk<'a>,
-    objects: &IndexSet<u64>,
+    objects: &IdTable,
 ) -> Result<Vec<SubRecord<'a>>, AllocError>
     ensures { (items : List ItemTold) → IsWhole (left walk.entry) items
         → IfOk result (λ subs. map sub_record subs.items ≡ subs_from objects.now.keys 0 items) }
@@ -49,7 +49,7 @@ pub(crate) fn collect_subs<'a>(
 // Collects the sub-record of an item, if it is the next object.
 fn collect_sub<'a>(
     subs: &mut Vec<SubRecord<'a>>,
-    objects: &IndexSet<u64>,
+    objects: &IdTable,
     item: Item<'a>,
 ) -> Result<(), AllocError>
     ensures { OnOk result (map sub_record subs.new.items ≡ map sub_record subs.old.items

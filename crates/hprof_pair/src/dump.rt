@@ -53,7 +53,8 @@ fn collect_sub<'a>(
     item: Item<'a>,
 ) -> Result<(), AllocError>
     ensures { OnOk result (map sub_record subs.new.items ≡ map sub_record subs.old.items
-        ++ sub_in objects.now.keys (length (map sub_record subs.old.items)) (item_told item.entry)) }
+        ++ sub_in objects.now.keys (length (map sub_record subs.old.items))
+        (item_told item.entry)) }
 {
     if let Item::Sub(sub) = item {
         if is_turn(objects, subs.len(), &sub) {
@@ -116,7 +117,8 @@ impl<'s, 'a> Dump<'s, 'a> {
     /// Puts the values of the slots of object n in place of those given. Fails if an allocation fails.
     #[tactic(auto, unfolding(crate::specs::Dumps::values_of))]
     pub(crate) fn read_values(&self, values: &mut Vec<SlotValue>, n: u64) -> Result<(), AllocError>
-        requires { index_map_len self.now.all.plan.now.kinds ≤ length self.now.all.plan.now.classes }
+        requires { index_map_len self.now.all.plan.now.kinds
+            ≤ length self.now.all.plan.now.classes }
         ensures { OnOk result (values.new.items ≡ values_of (dump_told self.now) n) }
     {
         values.clear();

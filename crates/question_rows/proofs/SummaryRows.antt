@@ -27,8 +27,7 @@ unused_by_summary (x ∷ xs) (suc r) e = unused_by_summary xs r e
 pub summary_row : (all : List (Option RegionSummary)) (regions : List Region) (r : ℕ) (s : RegionSummary) → get_or all r None ≡ Some s → all ≡ summaries regions
     → (used_before regions (r + 1) ≡ used_before regions r ++ r ∷ []) × (region_row regions r ≡ summary_text r s)
 summary_row all regions r s here is =
-    let u = used_by_summary regions r s (sym (ap (λ (l : List (Option RegionSummary)). get_or l r None) is) ∙ here) in
-    (
+    let u = used_by_summary regions r s (sym (ap (λ (l : List (Option RegionSummary)). get_or l r None) is) ∙ here) in (
       one_used regions r u.0.cell_size (ap (option_map (λ (u : UsedRegion). u.cell_size)) u.1),
       ap (λ (x : Option UsedRegion). option_map_or (λ u. summary_text r (summary_of u)) x []) u.1 ∙ ap (summary_text r) u.2,
     )

@@ -4,32 +4,32 @@ use Rattle.heap_questions.specs.declared.nodes.Node.{Node}
 use Rattle.heap_questions.specs.declared.nodes.Hint.{Hint}
 
 -- the number of steps from the first id to another, which wraps around if the other is smaller
-unfoldable pub steps_between : ℕ → ℕ → ℕ
-steps_between first id = (id + (2 ^ 64 - first)) % 2 ^ 64 / 8
+unfoldable pub id_steps : ℕ → ℕ → ℕ
+id_steps first id = (id + (2 ^ 64 - first)) % 2 ^ 64 / 8
 
 -- the id this many steps from the first
-unfoldable pub id_at : ℕ → ℕ → ℕ
-id_at first steps = (first + steps * 8 % 2 ^ 64) % 2 ^ 64
+unfoldable pub id_after : ℕ → ℕ → ℕ
+id_after first steps = (first + steps * 8 % 2 ^ 64) % 2 ^ 64
 
 -- the node that a hint tells for one of its steps, if its bit is set: all before the hint and at lower steps stand before it
-unfoldable pub told_by : Hint → ℕ → Option ℕ
-told_by h s =
+unfoldable pub node_told_by : Hint → ℕ → Option ℕ
+node_told_by h s =
     cond (h.bits / 2 ^ s % 2 == 0) None (Some (h.before + count_ones (bit_and h.bits (2 ^ s - 1))))
 
--- the node that hints tell for an id so many steps from the first, if they tell one
-unfoldable pub told : List Hint → ℕ → Option ℕ
-told hints s = option_and_then (λ h. told_by h (s % 64)) (slice_get hints (s / 64))
+-- the node that hints tell for an id this many steps from the first, if they tell one
+unfoldable pub node_told : List Hint → ℕ → Option ℕ
+node_told hints s = option_and_then (λ h. node_told_by h (s % 64)) (slice_get hints (s / 64))
 
 -- the hints tell where each of the first n nodes stands
 abbrev pub IsEachTold : ℕ → List Hint → List Node → ℕ → Type 0
 IsEachTold first hints nodes n =
     (k : ℕ) (a : Node) → k < n → slice_get nodes k ≡ Some a
-    → told hints (steps_between first a.id) ≡ Some k
+    → node_told hints (id_steps first a.id) ≡ Some k
 
 -- the node that the hints tell for this many steps has the id there
 abbrev pub IsRightlyTold : ℕ → List Hint → List Node → ℕ → Type 0
 IsRightlyTold first hints nodes s =
-    (k : ℕ) → told hints s ≡ Some k → (a : Node) × (slice_get nodes k ≡ Some a) × (a.id ≡ id_at first s)
+    (k : ℕ) → node_told hints s ≡ Some k → (a : Node) × (slice_get nodes k ≡ Some a) × (a.id ≡ id_after first s)
 
 -- so does each that they tell for fewer than n steps
 abbrev pub IsNoneElseTold : ℕ → List Hint → List Node → ℕ → Type 0
@@ -38,5 +38,5 @@ IsNoneElseTold first hints nodes n = (s : ℕ) → s < n → IsRightlyTold first
 -- the hints tell where each node stands, and nothing else
 pub record AreTold (first : ℕ) (hints : List Hint) (nodes : List Node) : Type 0 where
   pub each : (k : ℕ) (a : Node) → slice_get nodes k ≡ Some a
-      → told hints (steps_between first a.id) ≡ Some k
+      → node_told hints (id_steps first a.id) ≡ Some k
   pub only : (s : ℕ) → IsRightlyTold first hints nodes s

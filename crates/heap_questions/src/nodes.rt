@@ -4,7 +4,7 @@ ghost use Rattle.heap_class.specs.declared.Refusal.TheVariants.{NoMemory};
 ghost use Rattle.hprof_text.specs.Image.{object_limit};
 ghost use Rattle.heap_questions.specs.declared.nodes.Node.{Node};
 ghost use Rattle.heap_questions.specs.Search.{AreSmallerBefore, AreFrom, AreNodes, AreRising, hint_limit, node_with};
-ghost use Rattle.heap_questions.specs.Hints.{AreTold, IsEachTold, IsNoneElseTold, IsRightlyTold, id_at, steps_between, told, told_by};
+ghost use Rattle.heap_questions.specs.Hints.{AreTold, IsEachTold, IsNoneElseTold, IsRightlyTold, id_after, id_steps, node_told, node_told_by};
 
 use heap_class::{ObjRef, Refusal};
 use hprof_text::View;
@@ -127,21 +127,21 @@ fn first_id(nodes: &[Node]) -> u64 {
 }
 
 // Returns the node that the hints tell for an id that is `steps` steps from the first, if they tell one.
-fn told(hints: &[Hint], steps: u64) -> Option<usize>
-    ensures { result ≡ told hints.now steps }
+fn node_told(hints: &[Hint], steps: u64) -> Option<usize>
+    ensures { result ≡ node_told hints.now steps }
 {
     let place = steps / HINT_STEPS;
     if place < hints.len() as u64 {
-        told_by(hints[place as usize], (steps % HINT_STEPS) as u32)
+        node_told_by(hints[place as usize], (steps % HINT_STEPS) as u32)
     } else {
         None
     }
 }
 
 // Returns the node that a hint tells for one of its steps, if it tells one.
-fn told_by(hint: Hint, step: u32) -> Option<usize>
+fn node_told_by(hint: Hint, step: u32) -> Option<usize>
     requires { step < 64 }
-    ensures { result ≡ told_by hint step }
+    ensures { result ≡ node_told_by hint step }
 {
     if (hint.bits >> step) % 2 == 0 {
         return None;
@@ -151,8 +151,8 @@ fn told_by(hint: Hint, step: u32) -> Option<usize>
 }
 
 // Returns the id that is `steps` steps from the first.
-fn id_at(first: u64, steps: u64) -> u64
-    ensures { result ≡ id_at first steps }
+fn id_after(first: u64, steps: u64) -> u64
+    ensures { result ≡ id_after first steps }
 {
     first.wrapping_add(steps.wrapping_mul(ID_STEP))
 }
@@ -161,9 +161,9 @@ fn id_at(first: u64, steps: u64) -> u64
 fn told_with(hints: &[Hint], first: u64, id: u64) -> Option<usize>
     ensures { (ns : List Node) → AreTold first hints.now ns → result ≡ node_with ns id }
 {
-    let steps = steps_between(first, id);
-    if id_at(first, steps) == id {
-        told(hints, steps)
+    let steps = id_steps(first, id);
+    if id_after(first, steps) == id {
+        node_told(hints, steps)
     } else {
         None
     }
@@ -182,7 +182,7 @@ fn is_each_told(nodes: &[Node], first: u64, hints: &[Hint]) -> bool
     ensures { IsTrue result → IsEachTold first hints.now nodes.now (length nodes.now) }
 {
     for node in 0..nodes.len() {
-        if !is_told(hints, steps_between(first, nodes[node].id), node) {
+        if !is_told(hints, id_steps(first, nodes[node].id), node) {
             return false;
         }
     }
@@ -191,9 +191,9 @@ fn is_each_told(nodes: &[Node], first: u64, hints: &[Hint]) -> bool
 
 // Tells whether the hints tell this node for an id that is `steps` steps from the first.
 fn is_told(hints: &[Hint], steps: u64, node: usize) -> bool
-    ensures { IsTrue result → told hints.now steps ≡ Some node }
+    ensures { IsTrue result → node_told hints.now steps ≡ Some node }
 {
-    match told(hints, steps) {
+    match node_told(hints, steps) {
         Some(found) => found == node,
         None => false,
     }
@@ -216,8 +216,8 @@ fn is_none_else_told(nodes: &[Node], first: u64, hints: &[Hint]) -> bool
 fn is_rightly_told(nodes: &[Node], first: u64, hints: &[Hint], steps: u64) -> bool
     ensures { IsTrue result → IsRightlyTold first hints.now nodes.now steps }
 {
-    match told(hints, steps) {
-        Some(node) => node < nodes.len() && nodes[node].id == id_at(first, steps),
+    match node_told(hints, steps) {
+        Some(node) => node < nodes.len() && nodes[node].id == id_after(first, steps),
         None => true,
     }
 }
@@ -231,7 +231,7 @@ fn hints_of(alloc: Global, nodes: &[Node], first: u64) -> Result<Vec<Hint>, Refu
     let none = Hint { before: 0, bits: 0 };
     let mut hints = vec![in alloc; none; hint_count(nodes)]?;
     for node in 0..nodes.len() {
-        let steps = steps_between(first, nodes[node].id);
+        let steps = id_steps(first, nodes[node].id);
         let place = steps / HINT_STEPS;
         if place < hints.len() as u64 {
             let hint = hints[place as usize];
@@ -248,7 +248,7 @@ fn hint_count(nodes: &[Node]) -> usize
 {
     match (nodes.first(), nodes.last()) {
         (Some(first), Some(last)) => {
-            let steps = steps_between(first.id, last.id).min(HEAP_WORDS);
+            let steps = id_steps(first.id, last.id).min(HEAP_WORDS);
             (steps / HINT_STEPS) as usize + 1
         }
         _ => 0,
@@ -256,8 +256,8 @@ fn hint_count(nodes: &[Node]) -> usize
 }
 
 // Returns the number of steps from an id to another, which may be any number if the other is smaller.
-fn steps_between(first: u64, id: u64) -> u64
-    ensures { result ≡ steps_between first id }
+fn id_steps(first: u64, id: u64) -> u64
+    ensures { result ≡ id_steps first id }
 {
     id.wrapping_sub(first) / ID_STEP
 }

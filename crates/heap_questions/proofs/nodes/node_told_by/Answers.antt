@@ -2,18 +2,18 @@ use Rattle.std.proofs.Common.{ℕ, ◌+◌, ◌-◌, ◌/◌, ◌%◌, ◌^◌, 
 use Rattle.std.specs.Prelude.{Option, Some, None, bit_and, count_ones}
 use Rattle.std.proofs.lemmas.Bool.{eq-eqb, ne_eqb}
 use Rattle.std.proofs.lemmas.Nat.{one_shl}
-use Rattle.heap_questions.specs.Hints.{told_by}
-use Rattle.heap_questions.proofs.nodes.told_by.Goals as goal
+use Rattle.heap_questions.specs.Hints.{node_told_by}
+use Rattle.heap_questions.proofs.nodes.node_told_by.Goals as goal
 
 pub returns-then-hint-step-eq0 : goal.returns-then-hint-step-eq0
-unfolding told_by
+unfolding node_told_by
 returns-then-hint-step-eq0 c =
     let h = c.args.hint in
     let s = c.args.step in
     sym (ap (λ b. cond b None (Some (h.before + count_ones (bit_and h.bits (2 ^ s - 1))))) (eq-eqb _ 0 c.if-hint-step-eq0.true))
 
 pub returns : goal.returns
-unfolding told_by
+unfolding node_told_by
 returns c =
     let h = c.args.hint in
     let s = c.args.step in

@@ -1,5 +1,5 @@
-use Rattle.std.proofs.Common.{ℕ, ◌+◌, ◌-◌, ◌/◌, ◌%◌, ◌^◌, Bool, cond, sym, ap, ◌∙◌}
-use Rattle.std.specs.Prelude.{Option, Some, None, bit_and, count_ones}
+use Rattle.std.proofs.Common.{ℕ, ◌+◌, ◌-◌, ◌^◌, cond, sym, ap, ◌∙◌}
+use Rattle.std.specs.Prelude.{Some, None, bit_and, count_ones}
 use Rattle.std.proofs.lemmas.Bool.{eq-eqb, ne_eqb}
 use Rattle.std.proofs.lemmas.Nat.{one_shl}
 use Rattle.heap_questions.specs.Hints.{node_told_by}

@@ -1,5 +1,5 @@
 -- Hints tell where nodes stand: as bits, for each step of 8 from the first id on, and how many nodes stand before each 64 steps.
-use Rattle.std.specs.Prelude.{◌≡◌, ◌+◌, ◌-◌, ◌*◌, ◌/◌, ◌%◌, ◌^◌, ◌<◌, ◌==◌, ℕ, List, Option, Some, None, cond, slice_get, option_and_then, bit_and, count_ones}
+use Rattle.std.specs.Prelude.{◌≡◌, ◌+◌, ◌-◌, ◌*◌, ◌/◌, ◌%◌, ◌^◌, ◌<◌, ◌==◌, ℕ, List, Option, Some, None, cond, length, slice_get, option_and_then, bit_and, count_ones}
 use Rattle.heap_questions.specs.declared.nodes.Node.{Node}
 use Rattle.heap_questions.specs.declared.nodes.Hint.{Hint}
 
@@ -29,14 +29,23 @@ IsEachTold first hints nodes n =
 -- the node that the hints tell for this many steps has the id there
 abbrev pub IsRightlyTold : ℕ → List Hint → List Node → ℕ → Type 0
 IsRightlyTold first hints nodes s =
-    (k : ℕ) → node_told hints s ≡ Some k → (a : Node) × (slice_get nodes k ≡ Some a) × (a.id ≡ id_after first s)
-
--- so does each that they tell for fewer than n steps
-abbrev pub IsNoneElseTold : ℕ → List Hint → List Node → ℕ → Type 0
-IsNoneElseTold first hints nodes n = (s : ℕ) → s < n → IsRightlyTold first hints nodes s
+    (k : ℕ) → node_told hints s ≡ Some k
+    → (a : Node) × (slice_get nodes k ≡ Some a) × (a.id ≡ id_after first s)
 
 -- the hints tell where each node stands, and nothing else
 pub record AreTold (first : ℕ) (hints : List Hint) (nodes : List Node) : Type 0 where
-  pub each : (k : ℕ) (a : Node) → slice_get nodes k ≡ Some a
-      → node_told hints (id_steps first a.id) ≡ Some k
+  pub each : IsEachTold first hints nodes (length nodes)
   pub only : (s : ℕ) → IsRightlyTold first hints nodes s
+
+-- so they do of the first n nodes, and for fewer than this many steps
+pub record AreToldTo (first : ℕ) (hints : List Hint) (nodes : List Node) (steps n : ℕ) : Type 0 where
+  pub each : IsEachTold first hints nodes n
+  pub only : (s : ℕ) → s < steps → IsRightlyTold first hints nodes s
+
+-- they tell node k for this many steps, which lead to its id
+pub record IsToldAt (first : ℕ) (hints : List Hint) (nodes : List Node) (steps k : ℕ) : Type 0 where
+  pub told : node_told hints steps ≡ Some k
+  pub node : Node
+  pub there : slice_get nodes k ≡ Some node
+  pub after : node.id ≡ id_after first steps
+  pub before : id_steps first node.id ≡ steps

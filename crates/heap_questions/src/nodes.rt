@@ -1,10 +1,10 @@
 //! The objects of a view with their places, and how one is found by its id.
-ghost use Rattle.std.specs.Prelude.{◌≡◌, ◌<◌, ◌≤◌, ◌*◌, ◌^◌, ◌++◌, List, length, map, Some, IsTrue, IfOk, IfErr, OnOk, slice_get};
+ghost use Rattle.std.specs.Prelude.{◌≡◌, ◌<◌, ◌≤◌, ◌+◌, ◌*◌, ◌^◌, ◌++◌, List, length, map, Some, IsTrue, IfSome, IfOk, IfErr, OnOk, slice_get};
 ghost use Rattle.heap_class.specs.declared.Refusal.TheVariants.{NoMemory};
 ghost use Rattle.hprof_text.specs.Image.{object_limit};
 ghost use Rattle.heap_questions.specs.declared.nodes.Node.{Node};
 ghost use Rattle.heap_questions.specs.Search.{AreSmallerBefore, AreFrom, AreNodes, AreRising, hint_limit, node_with};
-ghost use Rattle.heap_questions.specs.Hints.{AreTold, IsEachTold, IsNoneElseTold, IsRightlyTold, id_after, id_steps, node_told, node_told_by};
+ghost use Rattle.heap_questions.specs.Hints.{AreTold, AreToldTo, IsToldAt, id_after, id_steps, node_told, node_told_by};
 
 use heap_class::{ObjRef, Refusal};
 use hprof_text::View;
@@ -174,51 +174,66 @@ fn are_told(nodes: &[Node], first: u64, hints: &[Hint]) -> bool
     requires { length hints.now ≤ hint_limit }
     ensures { IsTrue result → AreTold first hints.now nodes.now }
 {
-    is_each_told(nodes, first, hints) && is_none_else_told(nodes, first, hints)
-}
-
-// Tells whether the hints tell where each node stands.
-fn is_each_told(nodes: &[Node], first: u64, hints: &[Hint]) -> bool
-    ensures { IsTrue result → IsEachTold first hints.now nodes.now (length nodes.now) }
-{
-    for node in 0..nodes.len() {
-        if !is_told(hints, id_steps(first, nodes[node].id), node) {
-            return false;
+    let mut node = 0;
+    for place in 0..hints.len() {
+        match node_behind(nodes, first, hints, place, hints[place], node) {
+            Some(next) => node = next,
+            None => return false,
         }
     }
-    true
+    node == nodes.len()
 }
 
-// Tells whether the hints tell this node for an id that is `steps` steps from the first.
+// Returns the node behind those of the hint at this place, which begin at `from`, if it tells where they stand, and nothing else.
+fn node_behind(
+    nodes: &[Node],
+    first: u64,
+    hints: &[Hint],
+    place: usize,
+    hint: Hint,
+    from: usize,
+) -> Option<usize>
+    requires few { place < hint_limit }
+    requires there { slice_get hints.now place ≡ Some hint }
+    requires within { from ≤ length nodes.now }
+    requires told { AreToldTo first hints.now nodes.now (place * 64) from }
+    ensures within { IfSome result (λ n. n ≤ length nodes.now) }
+    ensures told { IfSome result (AreToldTo first hints.now nodes.now ((place + 1) * 64)) }
+{
+    let mut node = from;
+    let mut step = 0;
+    let mut rest = hint.bits;
+    while rest != 0 {
+        let zeros = rest.trailing_zeros();
+        let steps = place as u64 * HINT_STEPS + (step + zeros) as u64;
+        if !is_told_at(nodes, first, hints, steps, node) {
+            return None;
+        }
+        rest = rest >> zeros >> 1;
+        step += zeros + 1;
+        node += 1;
+    }
+    Some(node)
+}
+
+// Tells whether the hints tell this node for an id this many steps from the first, and it has that id.
+fn is_told_at(nodes: &[Node], first: u64, hints: &[Hint], steps: u64, node: usize) -> bool
+    ensures { IsTrue result → IsToldAt first hints.now nodes.now steps node }
+{
+    if node >= nodes.len() {
+        return false;
+    }
+    let id = nodes[node].id;
+    id_steps(first, id) == steps && id_after(first, steps) == id && is_told(hints, steps, node)
+}
+
+// Tells whether the hints tell this node for an id this many steps from the first.
 fn is_told(hints: &[Hint], steps: u64, node: usize) -> bool
     ensures { IsTrue result → node_told hints.now steps ≡ Some node }
 {
     match node_told(hints, steps) {
         Some(found) => found == node,
         None => false,
-    }
-}
-
-// Tells whether the hints tell no node but those that stand there.
-fn is_none_else_told(nodes: &[Node], first: u64, hints: &[Hint]) -> bool
-    requires { length hints.now ≤ hint_limit }
-    ensures { IsTrue result → IsNoneElseTold first hints.now nodes.now (length hints.now * 64) }
-{
-    for steps in 0..hints.len() as u64 * HINT_STEPS {
-        if !is_rightly_told(nodes, first, hints, steps) {
-            return false;
-        }
-    }
-    true
-}
-
-// Tells whether the node that the hints tell for an id `steps` steps from the first, if they tell one, has that id.
-fn is_rightly_told(nodes: &[Node], first: u64, hints: &[Hint], steps: u64) -> bool
-    ensures { IsTrue result → IsRightlyTold first hints.now nodes.now steps }
-{
-    match node_told(hints, steps) {
-        Some(node) => node < nodes.len() && nodes[node].id == id_after(first, steps),
-        None => true,
     }
 }
 

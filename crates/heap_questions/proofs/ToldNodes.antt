@@ -33,9 +33,6 @@ all_told first hints nodes s n h l e =
       ];
     }
 
-pub none_told : (first : ℕ) (hints : List Hint) (nodes : List Node) → AreToldTo first hints nodes 0 0
-none_told first hints nodes = record { each = λ k a w g. absurd (omega (arith, w)); only = λ s w k t. absurd (omega (arith, w)) }
-
 -- ---- the steps of a hint
 
 told_in : (hints : List Hint) (place step : ℕ) (h : Hint) → slice_get hints place ≡ Some h → step < 64 → node_told hints (place * 64 + step) ≡ node_told_by h step
@@ -66,8 +63,8 @@ clear_all h from e s l w =
     let d : from + (s - from) ≡ s = omega (arith, l) in
     ap (λ n. h.bits / 2 ^ n % 2) (sym d) ∙ ap (λ n. n % 2) (sym (shr-shr h.bits from (s - from))) ∙ ap (λ n. n / 2 ^ (s - from) % 2) (sym e) ∙ ap (λ n. n % 2) (zero-div (2 ^ (s - from)))
 
-pub shifted : (n a z rest : ℕ) → rest ≡ n / 2 ^ a → rest / 2 ^ z / 2 ≡ n / 2 ^ (a + (z + 1))
-shifted n a z rest e =
+pub rest_shifted : (n a z rest : ℕ) → rest ≡ n / 2 ^ a → rest / 2 ^ z / 2 ≡ n / 2 ^ (a + (z + 1))
+rest_shifted n a z rest e =
     let d : a + z + 1 ≡ a + (z + 1) = omega arith in
     ap (λ r. r / 2 ^ z / 2 ^ 1) e ∙ ap (λ r. r / 2 ^ 1) (shr-shr n a z) ∙ shr-shr n (a + z) 1 ∙ ap (λ k. n / 2 ^ k) d
 

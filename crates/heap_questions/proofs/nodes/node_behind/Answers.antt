@@ -2,7 +2,7 @@ use Rattle.std.proofs.Common.{◌≡◌, ◌+◌, ◌*◌, ◌^◌, ◌<◌, w64
 use Rattle.std.specs.Int.{trailing_zeros}
 use Rattle.std.proofs.lemmas.Option.{slice_get_within}
 use Rattle.heap_questions.specs.Hints.{AreToldTo}
-use Rattle.heap_questions.proofs.ToldNodes.{clear_all, clear_below, one_told_more, set_within, shifted, told_past_clear}
+use Rattle.heap_questions.proofs.ToldNodes.{clear_all, clear_below, one_told_more, rest_shifted, set_within, told_past_clear}
 use Rattle.heap_questions.proofs.nodes.node_behind.Goals as goal
 
 pub loop-rest-preserved : goal.loop-rest-preserved
@@ -22,7 +22,7 @@ loop-rest-preserved c =
     let more = one_told_more first hints nodes (base + (l.step + zeros)) l.node here t in
     let same : base + (l.step + zeros) + 1 ≡ base + (l.step + (zeros + 1)) = omega arith in
     record {
-      rest = shifted c.args.hint.bits l.step zeros l.rest l.invariant.rest;
+      rest = rest_shifted c.args.hint.bits l.step zeros l.rest l.invariant.rest;
       step = omega (arith, within);
       fits = l.invariant.fits;
       within = omega (arith, slice_get_within nodes l.node here.node here.there);

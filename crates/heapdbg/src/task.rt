@@ -148,6 +148,18 @@ fn shows_progress(alloc: Global, words: &[String]) -> bool {
     }
 }
 
+// Returns the settings that the words ask for.
+fn settings_of_words(alloc: Global, words: &[String]) -> Result<Settings, LineFault>
+    ensures ok { IfOk result (λ s. settings_of (map string_bytes words.now) ≡ Some s) }
+    ensures refused { IfErr result (IsRefusalOf (map string_bytes words.now)) }
+    ensures limits { IfOk result AreSettingsWithin }
+{
+    match borrow_words(alloc, words) {
+        Ok(line) => settings(alloc, line.as_slice()),
+        Err(_) => Err(LineFault::Memory),
+    }
+}
+
 // Does the task that the words ask for between a reader and standard output. `shows` tells whether rows are shown in columns, before
 // which a ticker clears what it shows.
 fn perform_shown<R, I: Inlet>(
@@ -212,18 +224,6 @@ where
     };
     work(rt, request, screen, log, reader, input, writer)?;
     Ok(())
-}
-
-// Returns the settings that the words ask for.
-fn settings_of_words(alloc: Global, words: &[String]) -> Result<Settings, LineFault>
-    ensures ok { IfOk result (λ s. settings_of (map string_bytes words.now) ≡ Some s) }
-    ensures refused { IfErr result (IsRefusalOf (map string_bytes words.now)) }
-    ensures limits { IfOk result AreSettingsWithin }
-{
-    match borrow_words(alloc, words) {
-        Ok(line) => settings(alloc, line.as_slice()),
-        Err(_) => Err(LineFault::Memory),
-    }
 }
 
 // Returns the words as text. Fails with Memory.

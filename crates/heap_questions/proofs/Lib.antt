@@ -7,6 +7,7 @@ pub mod Passing
 pub mod Looking
 pub mod OtherRegisters
 pub mod Halving
+pub mod ToldNodes
 pub mod Reaching
 pub mod CutPaths
 pub mod Retained
@@ -44,6 +45,7 @@ pub mod CountedCells
 pub mod DifferentObjects
 pub mod DeadObjects
 pub mod EndedCycles
+pub mod PastRegions
 pub mod PastLives
 pub mod FirstPlaces
 pub mod CountedObjects

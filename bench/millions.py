@@ -148,7 +148,8 @@ def opened(program, path, nodes):
     """Opens a dump, and returns what is wrong with the number of its nodes."""
     hunt = Hunt(program, "--hprof", path)
     counts = hunt.ask("histogram")
-    print(f"memory at most: {hunt.end():,} MB")
+    held = hunt.megabytes("VmRSS")
+    print(f"memory at most: {hunt.end():,} MB, of which {held:,} once it is open")
     wanted = f"row {nodes} {12 * nodes} Node"
     return [] if wanted in counts else [f"the dump has another histogram than {wanted!r}"]
 
@@ -188,12 +189,17 @@ class Hunt:
             self.faults.append(f"{line!r} was answered {lines[-1]!r} instead of {wanted!r}")
         return lines
 
+    def megabytes(self, name):
+        """Returns the memory of the program that the kernel counts by this name."""
+        status = pathlib.Path(f"/proc/{self.ran.pid}/status").read_text()
+        return int(re.search(rf"{name}:\s+(\d+)", status)[1]) // 1024
+
     def end(self):
         """Ends the session, and returns the megabytes that it has taken at most."""
-        status = pathlib.Path(f"/proc/{self.ran.pid}/status").read_text()
+        most = self.megabytes("VmHWM")
         self.ran.stdin.close()
         self.ran.wait()
-        return int(re.search(r"VmHWM:\s+(\d+)", status)[1]) // 1024
+        return most
 
 
 def hunted(program, session, chains, reached, lost):

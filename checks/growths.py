@@ -51,7 +51,7 @@ QUESTIONS = """class Node - next:object v:long, array Nodes, new 0 0 0, new 0 1 
     put 0 1 1 7, store 0 3 1 0, clear 0 1, clear 0 2, clear 0 3, put 0 0 1 5, open -, histogram, garbage, growth @3, kept @3, diff @3, path 0x10000020, paths 0x10000020 3,
     retained 0x10000020, dominators, dominators 1, dominators 0x10000000, dominator 0x10000020, referrers 0x10000000, registers, classes, objects,
     objects 1 0 1 7, values 0 1, values 1 1 0, show 0x10000000, show @9 0x10000020, watch 0x10000020 1, writes 0 1, when 0 1 7, dropped 0x10000040,
-    history 9, history @9 3, life 0x10000000, cycles, pins, cells, regions, status, show 0x10000060 1 1, when count 0 2,
+    history 9, history @9 3, life 0x10000000, cycles, pins, cells, regions, regions @9, status, show 0x10000060 1 1, when count 0 2,
     show 0x10000000.next, show @9 0x10000000.next.next 3, show 0x10000060.1 8, put 0 0 v 6, newarray 0 4 Nodes 2, rewind 2,
     rewind 3, forward 2, forward 9, name here, name there, name here, open @here, at @here, histogram, history 2,
     write now.hprof, write @9 past.hprof, write 1 pin.hprof, draw now.svg, open, growth, class Below Node w:int, class Twig Below, help"""

@@ -198,15 +198,15 @@ def broken_wraps():
 
 # What is counted, and the most of it.
 COUNTS = {
-    unshared_functions: 20,
-    twin_lemmas: 8,
+    unshared_functions: 19,
+    twin_lemmas: 7,
     shared_names: 99,
     names_of_one_word: 127,
     modules_without_head: 0,
     words_with_two_meanings: 0,
     large_crates: 9,
-    banned_words: 2,
-    long_clauses: 11,
+    banned_words: 0,
+    long_clauses: 0,
     long_functions: 8,
     parameters_of_tests: 0,
     shared_definitions: 118,

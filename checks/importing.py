@@ -7,8 +7,9 @@ must have the class, the values and the references of its like, but for arrays o
 the heap has an area. Bad files and bad words must be refused; what is left out must be told. `explore --hprof` must answer, and
 report, just as `explore --from` does with the session of the dump, also of dumps that are cut or have a byte changed. So must
 `run --hprof` and `draw --hprof`, which draws what `draw` draws after the lines of the session. Two sessions of `serve --hprof`, one
-after the other, must be answered as one of `explore --hprof` is, and so must the page. Prints a line for each thing that is otherwise
-than it must be, and ends with status 1 then."""
+after the other, must be answered as one of `explore --hprof` is, and so must the page. A dump must be opened in little memory. Prints
+a line for each thing that is otherwise than it must be, and ends with status 1 then."""
+import os
 import pathlib
 import re
 import shutil
@@ -68,6 +69,8 @@ ASKED_FIRST = b"classes\nregions\nregisters\nhistogram\ndump -\n"
 ASKED_THEN = b"collect\nhistogram\ndominators 20\n"
 # How a heap is served, beside the options of the heap.
 SERVICES = (), ("--stay",), ("--workers",), ("--workers", "--stay"), ("--roll",)
+# How many nodes a list has whose dump is opened, and the most bytes that this may take for each object, beside the dump and its heap.
+NODES, MOST_BESIDE = 300_000, 20
 # How many refused lines of a dump's session are reported.
 REPORTED = 8
 REFUSED = re.compile(rb":\d+: (no \d|bad command)")
@@ -523,6 +526,32 @@ def large_arrays(program, importer, folder):
             yield f"a dump whose large arrays the area has no room for: {few!r}"
 
 
+def memory_of(process):
+    """Returns the bytes that a process has taken at most, and those that it has."""
+    status = pathlib.Path(f"/proc/{process.pid}/status").read_text()
+    return [1024 * int(re.search(rf"{name}:\s+(\d+)", status)[1]) for name in ("VmHWM", "VmRSS")]
+
+
+def opened_in_little(program, folder):
+    """Yields what is wrong with the memory that a dump of many objects takes while it is opened, beside its bytes and its heap."""
+    session, dump = folder / "many.session", folder / "many.hprof"
+    node = b"new 0 1 0\nput 0 1 1 %d\nstore 0 1 0 0\nmove 0 0 0 1\n"
+    session.write_bytes(b"class Node - next:object key:int\n" + b"".join(node % key for key in range(NODES)) + b"clear 0 1\n")
+    saved(program, ["--wide", "--regions", "4096"], session, dump)
+    # Freed blocks go back to the system, so that what is held is the heap's.
+    own = {**os.environ, "MALLOC_MMAP_THRESHOLD_": "65536"}
+    with subprocess.Popen([program, "explore", "--hprof", str(dump)], env=own, stdin=subprocess.PIPE, stdout=subprocess.PIPE, stderr=subprocess.DEVNULL) as ran:
+        ran.stdin.write(b"status\n")
+        ran.stdin.flush()
+        ran.stdout.readline()
+        most, held = memory_of(ran)
+        ran.stdin.close()
+        ran.wait(LIMIT)
+    beside = (most - held - dump.stat().st_size) / NODES
+    if beside > MOST_BESIDE:
+        yield f"a dump of {NODES} objects: {beside:.1f} bytes for each beside its {dump.stat().st_size} and the heap's {held}"
+
+
 def paired_sessions(program, importer, folder):
     """Yields what is wrong with pairs of dumps of a session: of its state after a part of its lines and at its end, and of one state."""
     for name in SESSIONS:
@@ -560,6 +589,7 @@ def differences(program, importer):
         yield from unread(program, folder / "leak-8.hprof", folder)
         yield from refusals(importer, folder / "leak-8.hprof", folder)
         yield from cut_dumps(importer, folder / "leak-4.hprof", folder)
+        yield from opened_in_little(program, folder)
         yield from paired_sessions(program, importer, folder)
         pair = java_pair(folder)
         if pair:

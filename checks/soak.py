@@ -115,7 +115,7 @@ def line_by_lot(lot):
         (1, f"rewind {lot.randrange(1, 30) if lot.randrange(4) == 0 else 2000}"),
         (1, "what is this"), (0.1, "collect"), (0.3, f"forward {lot.choice(['1', '@'])}{lot.randrange(30)}"), (1, "histogram -"), (1, "garbage -"), (1, f"kept @{lot.randrange(3000)}"), (1, "registers -"), (1, "pins"),
         (0.3, f"at {lot.choice(['-', f'@{lot.randrange(3000)}', f'@n{lot.randrange(300)}'])}"), (0.3, f"name n{lot.randrange(300)}"),
-        (1, f"objects{lot.choice(['', ' -'])}"), (1, "cells"), (1, "regions"), (1, "cycles"), (1, "status"),
+        (1, f"objects{lot.choice(['', ' -'])}"), (1, "cells"), (1, f"regions{lot.choice(['', ' -', f' @{lot.randrange(3000)}'])}"), (1, "cycles"), (1, "status"),
         (1, f"path - 0x{0x10000000 + lot.randrange(1 << 12) * 8:08x}"),
         (1, f"paths {lot.choice(['', '- '])}0x{0x10000000 + lot.randrange(1 << 8) * 32:08x} {lot.choice([1, 4])}"),
         (1, f"retained {lot.choice(['', '- '])}0x{0x10000000 + lot.randrange(1 << 12) * 8:08x}"),

@@ -42,7 +42,7 @@ WANTED = {
     "cycles": ("ok nothing", "ok some", "ok several"),
     "pins": ("ok",),
     "cells": ("ok",),
-    "regions": ("ok",),
+    "regions": ABOUT_A_MOMENT,
     "status": ("ok",),
     "collect": ("ok",),
     "rewind": ("ok place", "ok by a place's name", "no 24"),

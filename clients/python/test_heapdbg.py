@@ -242,11 +242,14 @@ class Replies(unittest.TestCase):
         self.assertEqual(heap.writer.getvalue(), b"dominators 0x10000000\ndominators 1 0x00000010\ndominators @7 0x10000000 3\n")
 
     def test_regions(self):
-        heap = canned("row 0 4 5 3 2 waits", "row 7 64 1 1 0 -", "ok 2", "ok 0")
+        heap = canned("row 0 4 5 3 2 waits", "row 7 64 1 1 0 -", "ok 2", "ok 0", "ok 0", "no 24 NotRetained")
         rows = heap.regions()
         self.assertEqual(rows, [RegionRow(0, 4, 5, 3, 2, True), RegionRow(7, 64, 1, 1, 0, False)])
         self.assertEqual((rows[0].dead, rows[1].waits, heap.regions()), (2, False, []))
-        self.assertEqual(heap.writer.getvalue(), b"regions\nregions\n")
+        self.assertEqual(heap.regions(Place(9)), [])
+        with self.assertRaises(Refused):
+            heap.regions(Pin(1))
+        self.assertEqual(heap.writer.getvalue(), b"regions\nregions\nregions @9\nregions 1\n")
         self.assertEqual([row.taken for row in rows], [range(0, 1), range(7, 8)])
         self.assertEqual(RegionRow(12, 3072, 1, 1, 0, False).taken, range(12, 15))
 
@@ -301,6 +304,7 @@ class Replies(unittest.TestCase):
             heap.new(0, 0, 0)
             heap.new_values(0, 1, "byte", 20)
             self.assertEqual(heap.regions(), [RegionRow(0, 4, 2, 2, 0, False), RegionRow(1, 64, 1, 1, 0, False)])
+            self.assertEqual(heap.regions("@2"), [RegionRow(0, 4, 1, 1, 0, False)])
 
     def test_objects_cells_and_status_of_a_heap(self):
         with session("--questions", "1", "--regions", "2") as heap:

@@ -394,9 +394,9 @@ class Calls:
         for a gray one, and `x` for one that isn't live."""
         return self.send("cells", rows_by(cells_of))
 
-    def regions(self) -> list[RegionRow]:
-        """Returns a `RegionRow` for each region in use."""
-        return self.send("regions", rows_by(region_of))
+    def regions(self, moment: Moment = None) -> list[RegionRow]:
+        """Returns a `RegionRow` for each region in use. A pin stands for its place, which must be retained."""
+        return self.send(f"regions{about(moment)}", rows_by(region_of))
 
     def heap_status(self) -> dict[str, Union[int, str]]:
         """Asks `status`, and returns a dict of numbers, but for "phase", which is "idle" or "marking": "place", "retained", "gray",

@@ -44,6 +44,7 @@ pub mod CountedCells
 pub mod DifferentObjects
 pub mod DeadObjects
 pub mod EndedCycles
+pub mod PastRegions
 pub mod PastLives
 pub mod FirstPlaces
 pub mod CountedObjects

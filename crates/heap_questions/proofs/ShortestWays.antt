@@ -81,7 +81,7 @@ way_more image d x y h rest a n w =
       first = λ others e l. first_after image d x y h rest others a n w e l;
     }
 
--- the steps that were added lead on, and so many are left from where they lead
+-- the steps that were added lead on, and `left` steps are left from where they lead
 pub record IsPartOfWay (image : Image) (d : ℕ → ℕ) (start x : ℕ) (old hops : List Hop) (here left : ℕ) : Type 0 where
   pub done : List Hop
   pub added : hops ≡ old ++ done

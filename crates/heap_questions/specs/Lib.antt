@@ -24,6 +24,7 @@ pub mod Newest
 pub mod Losses
 pub mod Cells
 pub mod RegionCounts
+pub mod RegionSummaries
 pub mod PastTrails
 pub mod Differences
 pub mod FirstPlaces

@@ -129,7 +129,7 @@ fn add_reference(
     Ok(())
 }
 
-// Notes that so many slots lead from a node to the goal, unless fewer are known to. Fails with NoMemory.
+// Notes that `distance` slots lead from a node to the goal, unless fewer are known to. Fails with NoMemory.
 fn reach(
     table: &mut Vec<u32>,
     queue: &mut Vec<u32>,

@@ -41,9 +41,9 @@ pub use object_list::{ListedObject, list_objects, list_wanted};
 pub use objects::{object_with, slot_kind};
 pub use order::ranking;
 pub use past::{
-    EndedCycle, Life, Loss, PastEvent, PastStep, PastTrail, SeenSlot, SlotChange, SlotWrite, birth,
-    ended_cycles, first_many, first_wanted, history, last_write, lives_of, loss_of, path_is_reach,
-    slot_changes, slot_now, slot_writes, unreached_stays,
+    EndedCycle, Life, Loss, PastEvent, PastStep, PastTrail, RegionSummary, SeenSlot, SlotChange,
+    SlotWrite, birth, ended_cycles, first_many, first_wanted, history, last_write, lives_of,
+    loss_of, path_is_reach, region_summaries, slot_changes, slot_now, slot_writes, unreached_stays,
 };
 pub use paths::{Hop, Path, shortest_path};
 pub use references::{Referrer, referrers};

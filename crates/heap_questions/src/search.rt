@@ -106,8 +106,9 @@ pub(crate) fn search_on<V: View>(
     requires nodes { AreNodes (V.image view.now) (V.places view.now) nodes.now }
     requires search { IsSearchFromSome (V.image view.now)
         nodes.now reach.old.seen.items reach.old.queue.items 0 }
-    ensures ended { OnOk result (HasGoneOn (V.image view.now) nodes.now
-        reach.old.seen.items reach.old.queue.items reach.new.seen.items reach.new.queue.items goal) }
+    ensures ended { OnOk result (HasGoneOn (V.image view.now)
+        nodes.now reach.old.seen.items reach.old.queue.items
+        reach.new.seen.items reach.new.queue.items goal) }
     ensures refused { IfErr result (λ e. e ≡ NoMemory) }
 {
     let mut head = 0;
@@ -138,8 +139,9 @@ fn expand<V: View>(
     requires search { IsSearchFromSome (V.image view.now)
         nodes.now reach.old.seen.items reach.old.queue.items head }
     requires there { head < length reach.old.queue.items }
-    ensures search { OnOk result (IsOneFurther (V.image view.now) nodes.now
-        reach.old.seen.items reach.old.queue.items reach.new.seen.items reach.new.queue.items head) }
+    ensures search { OnOk result (IsOneFurther (V.image view.now)
+        nodes.now reach.old.seen.items reach.old.queue.items
+        reach.new.seen.items reach.new.queue.items head) }
     ensures refused { IfErr result (λ e. e ≡ NoMemory) }
 {
     let found = entry_at(reach.queue.as_slice(), head);

@@ -143,7 +143,8 @@ impl<'a, P: Outlets, G: Gauge> LastDump<'a, P, G> {
         limits: SessionLimits,
     ) -> Saved<P, P::Out>
         ensures saved { IsSaved limits (P.makes self.entry.target) local.old.first_pin
-            self.entry.time local.old.machine local.new.machine (I.seen reader.old) (I.seen reader.new)
+            self.entry.time local.old.machine local.new.machine
+            (I.seen reader.old) (I.seen reader.new)
             (O.seen writer.old) (O.seen writer.new) (option_map P.Out.seen result.outlet)
             result.ended result.pumped }
         ensures first { local.new.first_pin ≡ local.old.first_pin }

@@ -162,7 +162,8 @@ fn config_of_numbers(settings: &Settings) -> Option<Config>
           limits = usual_limits settings.now.wide;
         }) }
     ensures within { IsSome result
-        ↔ AreNumbersOf settings.now.wide settings.now.regions settings.now.mutators settings.now.keep }
+        ↔ AreNumbersOf settings.now.wide settings.now.regions
+        settings.now.mutators settings.now.keep }
 {
     if settings.wide {
         Config::wide(settings.regions, settings.mutators, settings.keep)

@@ -25,14 +25,9 @@ id_of (array x trace count k elements) = Some x
 id_of (prim x trace count kind elements) = Some x
 id_of _ = None
 
--- the number is this one
-abbrev pub is_at : ℕ → Option ℕ → Bool
-is_at i (Some k) = k == i
-is_at i None = false
-
 -- whether a sub-record is the object at this place among the objects of the dump
 unfoldable pub is_turn : List ℕ → ℕ → Sub → Bool
-is_turn objects i s = option_map_or (λ x. is_at i (position (nat_eq x) objects)) (id_of s) false
+is_turn objects i s = option_map_or (λ x. option_map_or (λ k. k == i) (position (nat_eq x) objects) false) (id_of s) false
 
 -- the place of the next object after an item
 abbrev pub next_place : List ℕ → ℕ → ItemTold → ℕ

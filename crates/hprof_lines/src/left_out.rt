@@ -16,7 +16,7 @@ use crate::values::SlotValue;
 use hprof_plan::{Plan, RootFound};
 use hprof_reader::SubRecord;
 use hprof_session::{Item, Walk, item_at};
-use indexmap::IndexSet;
+use id_table::IdTable;
 use std::alloc::{AllocError, Global};
 
 /// How much of a dump its session leaves out.
@@ -49,7 +49,7 @@ pub fn count_left_out(
     alloc: Global,
     walk: Walk<'_>,
     plan: &Plan<'_>,
-    objects: &IndexSet<u64>,
+    objects: &IdTable,
     roots: &[RootFound],
 ) -> Result<LeftOut, AllocError>
     requires { index_map_len plan.now.kinds ≤ length plan.now.classes }

@@ -14,6 +14,7 @@ use heap_step::Event;
 use hprof_plan::Plan;
 use hprof_reader::SubRecord;
 use hprof_session::{MADE, push_fetch, push_keep, push_place};
+use id_table::IdTable;
 use indexmap::IndexSet;
 use session_lines::Lines;
 use std::alloc::AllocError;
@@ -29,7 +30,7 @@ pub struct Objects<'s, 'a> {
     /// The size of identifiers.
     pub ids: IdSize,
     /// The ids of the objects in the order of the dump.
-    pub objects: &'s IndexSet<u64>,
+    pub objects: &'s IdTable,
     /// Whether each of them is made.
     pub made: &'s [bool],
     /// The ids of the classes that have an object for their static fields.
@@ -50,7 +51,7 @@ pub fn number_of(all: &Objects<'_, '_>, id: u64) -> Option<u64>
 {
     // Its contract bounds the number of objects.
     let _most = all.objects.len();
-    match all.objects.get_index_of(&id) {
+    match all.objects.index_of(id) {
         Some(i) => if made_at(all.made, i) {
             Some(all.statics.len() as u64 + i as u64)
         } else {

@@ -16,7 +16,7 @@ use dump_pump::Outlet;
 use hprof_plan::Plan;
 use hprof_reader::SubRecord;
 use hprof_session::{Item, PLACES, Walk, item_at};
-use indexmap::IndexSet;
+use id_table::IdTable;
 use session_lines::Lines;
 use std::alloc::{AllocError, Global};
 
@@ -31,17 +31,14 @@ pub enum Pass {
 
 /// Tells whether a sub-record is the object at this place among the objects of the dump.
 #[tactic(auto, unfolding(crate::specs::Passes::is_turn))]
-pub fn is_turn(objects: &IndexSet<u64>, i: usize, sub: &SubRecord<'_>) -> bool
+pub fn is_turn(objects: &IdTable, i: usize, sub: &SubRecord<'_>) -> bool
     ensures value { result ≡ is_turn objects.now.keys i (sub_record sub.now) }
     ensures limit { result ≡ true → i < 2 ^ 63 }
 {
     // Its contract bounds the number of objects.
     let _size = objects.len();
     match id_of(sub) {
-        Some(id) => match objects.get_index_of(&id) {
-            Some(k) => k == i,
-            None => false,
-        },
+        Some(id) => objects.is_at(i, id),
         None => false,
     }
 }
@@ -65,7 +62,7 @@ pub fn made_objects(
     alloc: Global,
     walk: Walk<'_>,
     plan: &Plan<'_>,
-    objects: &IndexSet<u64>,
+    objects: &IdTable,
     before: u64,
 ) -> Result<Vec<bool>, AllocError>
     requires { before < 2 ^ 63 }
@@ -90,7 +87,7 @@ pub fn made_objects(
 fn note_made(
     made: &mut Vec<bool>,
     plan: &Plan<'_>,
-    objects: &IndexSet<u64>,
+    objects: &IdTable,
     before: u64,
     item: &Item<'_>,
 ) -> Result<(), AllocError>

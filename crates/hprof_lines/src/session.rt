@@ -16,6 +16,7 @@ use crate::static_objects::write_statics;
 use dump_pump::Outlet;
 use hprof_plan::{Plan, RootFound, Statics};
 use hprof_session::Walk;
+use id_table::IdTable;
 use indexmap::IndexSet;
 use std::alloc::{AllocError, Global};
 
@@ -38,7 +39,7 @@ pub fn write_session<O: Outlet>(
     outlet: &mut O,
     walk: Walk<'_>,
     plan: &Plan<'_>,
-    objects: &IndexSet<u64>,
+    objects: &IdTable,
     roots: &[RootFound],
 ) -> Result<bool, AllocError>
     requires kinds { index_map_len plan.now.kinds ≤ length plan.now.classes }

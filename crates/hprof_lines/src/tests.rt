@@ -5,7 +5,8 @@ use heap_class::{Classes, Field, Fields, IdSize, Kind, Name, NewClass, WIDEST_CL
 use hprof_plan::{Plan, RootFound, Statics};
 use hprof_reader::StaticField;
 use hprof_session::Walk;
-use indexmap::{IndexMap, IndexSet};
+use id_table::IdTable;
+use indexmap::IndexMap;
 use session_lines::Lines;
 use std::alloc::Global;
 use std::test::*;
@@ -78,7 +79,7 @@ clear 0 6
 fn session_of_a_small_dump(rt: HostRuntime) -> Result<(), Fail> {
     let alloc = rt.alloc();
     let plan = plan(alloc)?;
-    let mut objects = IndexSet::new(alloc);
+    let mut objects = IdTable::new(alloc);
     for id in [0x31, 0x32, 0x33] {
         objects.insert(id).ok().ok_or("memory")?;
     }

@@ -11,7 +11,7 @@ use crate::shapes::{Shape, shape_made};
 use hprof_lines::{Objects, SlotValue, add_statics, is_turn, making_event, read_object};
 use hprof_reader::SubRecord;
 use hprof_session::{Item, Walk, item_at};
-use indexmap::IndexSet;
+use id_table::IdTable;
 use std::alloc::{AllocError, Global};
 
 /// The objects of a dump.
@@ -27,7 +27,7 @@ pub struct Dump<'s, 'a> {
 pub(crate) fn collect_subs<'a>(
     alloc: Global,
     walk: Walk<'a>,
-    objects: &IndexSet<u64>,
+    objects: &IdTable,
 ) -> Result<Vec<SubRecord<'a>>, AllocError>
     ensures { (items : List ItemTold) → IsWhole (left walk.entry) items
         → IfOk result (λ subs. map sub_record subs.items ≡ subs_from objects.now.keys 0 items) }
@@ -49,11 +49,12 @@ pub(crate) fn collect_subs<'a>(
 // Collects the sub-record of an item, if it is the next object.
 fn collect_sub<'a>(
     subs: &mut Vec<SubRecord<'a>>,
-    objects: &IndexSet<u64>,
+    objects: &IdTable,
     item: Item<'a>,
 ) -> Result<(), AllocError>
     ensures { OnOk result (map sub_record subs.new.items ≡ map sub_record subs.old.items
-        ++ sub_in objects.now.keys (length (map sub_record subs.old.items)) (item_told item.entry)) }
+        ++ sub_in objects.now.keys (length (map sub_record subs.old.items))
+        (item_told item.entry)) }
 {
     if let Item::Sub(sub) = item {
         if is_turn(objects, subs.len(), &sub) {
@@ -116,7 +117,8 @@ impl<'s, 'a> Dump<'s, 'a> {
     /// Puts the values of the slots of object n in place of those given. Fails if an allocation fails.
     #[tactic(auto, unfolding(crate::specs::Dumps::values_of))]
     pub(crate) fn read_values(&self, values: &mut Vec<SlotValue>, n: u64) -> Result<(), AllocError>
-        requires { index_map_len self.now.all.plan.now.kinds ≤ length self.now.all.plan.now.classes }
+        requires { index_map_len self.now.all.plan.now.kinds
+            ≤ length self.now.all.plan.now.classes }
         ensures { OnOk result (values.new.items ≡ values_of (dump_told self.now) n) }
     {
         values.clear();

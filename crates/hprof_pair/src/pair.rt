@@ -68,7 +68,7 @@ impl Pair<'_, '_, '_> {
         ensures { result ≡ id_number (dump_told self.now.first) id }
     {
         let _most = self.first.all.objects.len();
-        match self.first.all.objects.get_index_of(&id) {
+        match self.first.all.objects.index_of(id) {
             Some(i) => Some(self.first.all.statics.len() as u64 + i as u64),
             None => None,
         }

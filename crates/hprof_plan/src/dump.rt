@@ -13,6 +13,7 @@ use crate::items::{RootFound, array_class_of, class_of, load_of, name_of, object
 use heap_class::IdSize;
 use hprof_reader::{ClassDump, Fault};
 use hprof_session::{Item, Walk, item_at};
+use id_table::IdTable;
 use indexmap::{IndexMap, IndexSet};
 use std::alloc::{AllocError, Global};
 
@@ -30,7 +31,7 @@ pub struct Found<'a> {
     /// The ids of the classes of arrays of references.
     pub array_classes: IndexSet<u64>,
     /// The ids of objects, in the order of the dump, each once.
-    pub objects: IndexSet<u64>,
+    pub objects: IdTable,
     /// How many objects have an id that another object has.
     pub again: u64,
     /// The roots, in the order of the dump.
@@ -43,6 +44,16 @@ pub struct Found<'a> {
 
 /// Walks over what is left of a dump, to its end or the first fault. Fails if an allocation fails.
 pub fn find<'a>(alloc: Global, walk: Walk<'a>) -> Result<Found<'a>, AllocError>
+    requires { bytes_left (left walk) < 2 ^ 64 }
+    ensures { IfOk result (Finds (left walk.entry)) }
+{
+    let mut found = find_loosely(alloc, walk)?;
+    found.objects.fit()?;
+    Ok(found)
+}
+
+// Does the same, and may leave room for more objects.
+fn find_loosely<'a>(alloc: Global, walk: Walk<'a>) -> Result<Found<'a>, AllocError>
     requires { bytes_left (left walk) < 2 ^ 64 }
     ensures { IfOk result (Finds (left walk.entry)) }
 {
@@ -83,7 +94,7 @@ fn none_found<'a>(alloc: Global, ids: IdSize) -> Found<'a>
         loads: IndexMap::new(alloc),
         classes: IndexMap::new(alloc),
         array_classes: IndexSet::new(alloc),
-        objects: IndexSet::new(alloc),
+        objects: IdTable::new(alloc),
         again: 0,
         roots: Vec::new(alloc),
         fault: None,
@@ -176,11 +187,7 @@ fn note_array_class(array_classes: &mut IndexSet<u64>, item: Item<'_>) -> Result
 }
 
 // Notes the object in an item. Counts it, if another object has its id.
-fn note_object(
-    objects: &mut IndexSet<u64>,
-    again: &mut u64,
-    item: Item<'_>,
-) -> Result<(), AllocError>
+fn note_object(objects: &mut IdTable, again: &mut u64, item: Item<'_>) -> Result<(), AllocError>
     requires { again.old + 1 < 2 ^ 64 }
     ensures objects { OnOk result
         (objects.new.keys

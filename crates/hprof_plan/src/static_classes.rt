@@ -118,7 +118,7 @@ fn names_object(found: &Found<'_>, field: &StaticField<'_>) -> bool
         return false;
     }
     match id_at(found.ids, field.value) {
-        Some((id, _)) => found.objects.contains(&id),
+        Some((id, _)) => found.objects.contains(id),
         None => false,
     }
 }

@@ -52,7 +52,8 @@ fn run_dump<R: AllocGlobal + Clock + Eprint, C: Commands + Drop, B: LoadStart<C>
     requires limits { session_limits request.settings.wide ≡ B.limits }
     requires time { request.settings.time ≡ B.time }
     ensures run { IfOk result (IsDumpRunFrom B.limits (has_area request.entry.settings)
-        (AnswersCommand C.acts C.unknown B.time) (Begins C.acts C.unknown B.time) dump.now B.start) }
+        (AnswersCommand C.acts C.unknown B.time)
+        (Begins C.acts C.unknown B.time) dump.now B.start) }
     ensures hindrance { IfErr result (IsDumpHindrance B.limits (has_area request.entry.settings)
         (AnswersCommand C.acts C.unknown B.time) dump.now B.start) }
 {

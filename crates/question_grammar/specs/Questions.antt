@@ -296,7 +296,7 @@ past_rules b =
     ∷ (codes "cycles", λ ws. at_end Cycles ws)
     ∷ (codes "pins", λ ws. at_end Pins ws)
     ∷ (codes "cells", λ ws. at_end Cells ws)
-    ∷ (codes "regions", λ ws. at_end Regions ws)
+    ∷ (codes "regions", λ ws. option_map (λ at. Regions at) (optional_at b ws))
     ∷ (codes "status", λ ws. at_end Status ws)
     ∷ (codes "history", λ ws. option_map (λ a. History a.0 a.1) (place_and_number b ws))
     ∷ (codes "wrote", λ ws. option_map (λ a. Wrote a.0 a.1.0 a.1.1) (place_and_slot b ws))

@@ -76,7 +76,7 @@ pub enum Question {
     /// What each cell of the regions in use holds.
     Cells,
     /// How many objects each region in use has.
-    Regions,
+    Regions(At),
     /// Where the heap and its collector are.
     Status,
 }
@@ -414,7 +414,7 @@ fn past_question(bookmarks: &Bookmarks, keyword: &[u8], words: Words) -> Option<
         return at_end(Question::Cells, words);
     }
     if is_word(keyword, b"regions") {
-        return at_end(Question::Regions, words);
+        return Some(Question::Regions(optional_at(bookmarks, words)?));
     }
     if is_word(keyword, b"status") {
         return at_end(Question::Status, words);

@@ -17,5 +17,5 @@ pub mod LivedRows
 pub mod ToldSteps
 pub mod PinRows
 pub mod UsedRegions
-pub mod CountedRegions
+pub mod SummaryRows
 pub mod StatusRows

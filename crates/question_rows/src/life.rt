@@ -39,7 +39,8 @@ fn push_lives(
     lives: &[Life],
 ) -> Result<(), AllocError>
     requires { All (λ l. IsClassThere classes.now l.kind) lives.now }
-    ensures { Appends (flat_map (life_line classes.now) lives.now) text.old.items text.new.items result }
+    ensures { Appends (flat_map (life_line classes.now) lives.now)
+        text.old.items text.new.items result }
 {
     for life in lives {
         push_life(text, classes, *life)?;

@@ -1,46 +1,56 @@
 //! The answer of `regions`.
-ghost use Rattle.std.specs.Prelude.{◌≡◌, ◌+◌, ◌≤◌, flat_map, length, Some, IfOk};
-ghost use Rattle.heap_world.specs.Regions.{used_at};
+ghost use Rattle.std.specs.Prelude.{◌≡◌, ◌+◌, ◌≤◌, flat_map, length, IfOk, List};
+ghost use Rattle.heap_region.specs.Limits.{cell_limit};
+ghost use Rattle.heap_world.specs.Regions.{Region};
+ghost use Rattle.heap_trail.specs.Trail.{retained, state_ago};
 ghost use Rattle.heap_questions.specs.Cells.{used_regions};
+ghost use Rattle.heap_questions.specs.RegionSummaries.{HaveFew, summaries};
 ghost use Rattle.question_words.specs.Appends.{Appends, ReturnsText};
 ghost use Rattle.question_words.specs.Moments.{told_text};
-ghost use Rattle.question_rows.specs.RegionLists.{IsRegionsText, and_objects, counted_text, region_row, regions_text, waits_words};
+ghost use Rattle.question_rows.specs.RegionLists.{IsRegionsText, and_objects, region_row, regions_text, summary_text, waits_words};
 
 use heap_class::Refusal;
-use heap_questions::{RegionCounts, count_region};
-use heap_region::{RegionView, Regions};
+use heap_questions::{RegionCounts, RegionSummary, region_summaries};
 use heap_trail::Machine;
-use question_words::{Unanswered, push_count, push_number, push_row, push_words};
+use question_words::{At, Unanswered, ago_at, push_count, push_number, push_row, push_words};
 use std::alloc::{AllocError, Global};
 
-/// Returns the answer of `regions`. Fails with NoMemory if an allocation fails. Looks at each cell once.
-pub fn regions_answer(alloc: Global, machine: &Machine) -> Result<Vec<u8>, Unanswered>
-    ensures { IsRegionsText machine.now.trail.current (told_text result) }
+/// Returns the answer of `regions` about a retained state; a pin stands for its place. Fails with NotRetained if the state isn't
+/// retained, with NoPin if no such pin is open, with Lost and its cause if the pin is lost, and with NoMemory if an allocation
+/// fails. Looks at each cell of the current state once, and reads each record since the state that it is about once.
+pub fn regions_answer(alloc: Global, machine: &Machine, at: At) -> Result<Vec<u8>, Unanswered>
+    ensures { IsRegionsText at machine.now (told_text result) }
 {
-    Ok(regions_text(alloc, machine.world().regions())?)
+    let ago = ago_at(machine, at)?;
+    Ok(regions_text(alloc, machine, ago)?)
 }
 
-// Returns the lines of the regions in use, and their number. Fails with NoMemory.
-fn regions_text(alloc: Global, regions: &Regions) -> Result<Vec<u8>, Refusal>
-    ensures { ReturnsText (λ text. text ≡ regions_text regions.now.regions) result }
+// Returns the lines of the regions in use in the state of `ago` steps ago, and their number. Fails with NoMemory.
+fn regions_text(alloc: Global, machine: &Machine, ago: u64) -> Result<Vec<u8>, Refusal>
+    requires { ago ≤ retained machine.now.trail }
+    ensures { ReturnsText
+        (λ text. text ≡ regions_text (state_ago ago machine.now.trail).regions) result }
 {
+    let all = region_summaries(alloc, machine, ago)?;
     let mut text = Vec::new(alloc);
-    let count = push_regions(&mut text, regions)?;
+    let count = push_regions(&mut text, all.as_slice())?;
     push_count(&mut text, count)?;
     Ok(text)
 }
 
 // Appends the lines of the regions in use, and returns their number. Fails if an allocation fails.
-fn push_regions(text: &mut Vec<u8>, regions: &Regions) -> Result<u64, AllocError>
-    ensures appended { Appends
-        (flat_map (region_row regions.now.regions) (used_regions regions.now.regions))
+fn push_regions(text: &mut Vec<u8>, all: &[Option<RegionSummary>]) -> Result<u64, AllocError>
+    requires { HaveFew all.now }
+    ensures appended { (regions : List Region) → all.now ≡ summaries regions
+        → Appends (flat_map (region_row regions) (used_regions regions))
         text.old.items text.new.items result }
-    ensures count { IfOk result (λ n. n ≡ length (used_regions regions.now.regions)) }
+    ensures count { (regions : List Region) → all.now ≡ summaries regions
+        → IfOk result (λ n. n ≡ length (used_regions regions)) }
 {
     let mut count = 0;
-    for region in 0..regions.count() {
-        if let Some(storage) = regions.region(region) {
-            push_region(text, regions, region, &storage)?;
+    for region in 0..all.len() {
+        if let Some(summary) = all[region] {
+            push_region(text, region as u64, summary)?;
             count += 1;
         }
     }
@@ -48,26 +58,20 @@ fn push_regions(text: &mut Vec<u8>, regions: &Regions) -> Result<u64, AllocError
 }
 
 // Appends the line of a region in use. Fails if an allocation fails.
-fn push_region(
-    text: &mut Vec<u8>,
-    regions: &Regions,
-    region: u64,
-    storage: &RegionView<'_>,
-) -> Result<(), AllocError>
-    requires { used_at regions.now.regions region ≡ Some storage.now }
-    ensures { Appends (counted_text region storage.now) text.old.items text.new.items result }
+#[tactic(auto, unfolding(crate::specs::RegionLists::summary_text))]
+fn push_region(text: &mut Vec<u8>, region: u64, summary: RegionSummary) -> Result<(), AllocError>
+    requires { summary.counts.live + summary.counts.dead ≤ cell_limit }
+    ensures { Appends (summary_text region summary) text.old.items text.new.items result }
 {
-    let size = regions.cell_size(region).unwrap_or(0);
-    let waits = regions.pending(region).unwrap_or(false);
     push_row(text, region)?;
-    push_number(text, size)?;
-    push_objects(text, count_region(storage))?;
-    push_waits(text, waits)
+    push_number(text, summary.cell_size)?;
+    push_objects(text, summary.counts)?;
+    push_waits(text, summary.waits)
 }
 
 // Appends how many objects there are, how many of them are live, and how many aren't. Fails if an allocation fails.
 fn push_objects(text: &mut Vec<u8>, counts: RegionCounts) -> Result<(), AllocError>
-    requires { counts.live + counts.dead ≤ 256 }
+    requires { counts.live + counts.dead ≤ cell_limit }
     ensures { Appends (and_objects counts) text.old.items text.new.items result }
 {
     push_number(text, counts.live + counts.dead)?;

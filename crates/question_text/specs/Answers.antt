@@ -110,7 +110,7 @@ IsAnswer (History to count) m acts text = IsHistoryText to count m.trail text
 IsAnswer Cycles m acts text = IsCyclesText m.trail text
 IsAnswer Pins m acts text = IsPinsText m.pins text
 IsAnswer Cells m acts text = IsCellsText m.trail.current text
-IsAnswer Regions m acts text = IsRegionsText m.trail.current text
+IsAnswer (Regions at) m acts text = IsRegionsText at m text
 IsAnswer Status m acts text = IsStatusText m acts text
 
 -- the answer of a line that shows an object along these fields; or along none, and it may be a comment or ask for help

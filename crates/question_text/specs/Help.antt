@@ -23,7 +23,7 @@ session_forms =
     (codes "the open pins")
     ∷ form_of (codes "cells") (codes "cells") (codes "cells")
     (codes "what each cell of the regions in use holds")
-    ∷ form_of (codes "regions") (codes "regions") (codes "regions")
+    ∷ form_of (codes "regions") (codes "regions [AT]") (codes "regions @120")
     (codes "how many objects each region in use has")
     ∷ form_of (codes "status") (codes "status") (codes "status")
     (codes "the place, the phase, and what is left to collect")

@@ -151,7 +151,7 @@ pub fn answer(alloc: Global, machine: &Machine, acts: Option<u64>, question: Que
         Question::Cycles => line_answer(cycles_answer(alloc, machine)),
         Question::Pins => line_answer(pins_answer(alloc, machine)),
         Question::Cells => line_answer(cells_answer(alloc, machine)),
-        Question::Regions => line_answer(regions_answer(alloc, machine)),
+        Question::Regions(at) => line_answer(regions_answer(alloc, machine, at)),
         Question::Status => line_answer(status_answer(alloc, machine, acts)),
     }
 }

@@ -73,7 +73,7 @@ fn session_help(word: &[u8]) -> Option<&'static [u8]>
     by_word!(word;
         b"pins" => Some(b"row pins\nrow pins\nrow # the open pins\nok\n"),
         b"cells" => Some(b"row cells\nrow cells\nrow # what each cell of the regions in use holds\nok\n"),
-        b"regions" => Some(b"row regions\nrow regions\nrow # how many objects each region in use has\nok\n"),
+        b"regions" => Some(b"row regions [AT]\nrow regions @120\nrow # how many objects each region in use has\nok\n"),
         b"status" => Some(b"row status\nrow status\nrow # the place, the phase, and what is left to collect\nok\n"),
         b"collect" => Some(b"row collect\nrow collect\nrow # takes the steps of a whole cycle, and sweeps\nok\n"),
         b"forward" => Some(b"row forward N|@P\nrow forward 1\nrow # takes N undone steps again, or those up to place P\nok\n"),
@@ -136,7 +136,7 @@ pub fn all_help() -> &'static [u8]
         row rewind N|@P\nrow open [AT]\nrow piece PIN\nrow dump PIN\nrow close PIN\nrow end\n\
         row histogram [AT]\nrow garbage [AT]\nrow growth [AT [AT]]\nrow kept [AT [AT]]\nrow diff [AT [AT]]\nrow registers [AT]\nrow classes [AT]\n\
         row objects [AT] [CLASS [SLOT VALUE]]\nrow values [AT] CLASS SLOT\nrow referrers [AT] ID\nrow path [AT] ID\nrow paths [AT] ID N\nrow retained [AT] ID\nrow dominators [AT] [ID] [N]\nrow dominator [AT] ID\nrow show [AT] ID[.FIELD ..] [DEPTH | FROM N]\n\
-        row born [@PLACE] ID\nrow wrote [@PLACE] ID SLOT\nrow watch ID SLOT [@PLACE]\nrow writes CLASS SLOT [@PLACE [@PLACE]]\nrow when (CLASS SLOT VALUE | count CLASS N) [@PLACE [@PLACE]]\nrow dropped [@PLACE] ID\nrow life ID\nrow history [@PLACE] N\nrow cycles\nrow pins\nrow cells\nrow regions\nrow status\nrow collect\nrow forward N|@P\nrow at -|@P\nrow name WORD\n\
+        row born [@PLACE] ID\nrow wrote [@PLACE] ID SLOT\nrow watch ID SLOT [@PLACE]\nrow writes CLASS SLOT [@PLACE [@PLACE]]\nrow when (CLASS SLOT VALUE | count CLASS N) [@PLACE [@PLACE]]\nrow dropped [@PLACE] ID\nrow life ID\nrow history [@PLACE] N\nrow cycles\nrow pins\nrow cells\nrow regions [AT]\nrow status\nrow collect\nrow forward N|@P\nrow at -|@P\nrow name WORD\n\
         row help WORD\nok\n"
 }
 

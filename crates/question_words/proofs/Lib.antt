@@ -1,3 +1,4 @@
 pub mod PinImages
 pub mod FieldNames
 pub mod FieldsAbove
+pub mod PinStatuses

@@ -98,3 +98,15 @@ IsRefusedAt (Err x) e = e ≡ x
 unfoldable pub steps_ago : Option ℕ → Trail → Result ℕ Refusal
 steps_ago None t = Ok 0
 steps_ago (Some place) t = if is_retained place t then Ok (t.place - place) else Err NotRetained
+
+-- the same of the place of a pin, which must be open and not lost
+unfoldable pub ago_of_pin : Option PinState → Trail → Result ℕ Refusal
+ago_of_pin None t = Err NoPin
+ago_of_pin (Some (Gone place cause)) t = Err (LostPin cause)
+ago_of_pin (Some (Kept place image given)) t = steps_ago (Some place) t
+
+-- how many steps ago the state was that a question is about, if it is retained; a pin stands for its place
+unfoldable pub ago_at : At → Machine → Result ℕ Refusal
+ago_at Current m = Ok 0
+ago_at (Pin pin) m = ago_of_pin (pin_at pin m.pins) m.trail
+ago_at (Place place) m = steps_ago (Some place) m.trail

@@ -1,14 +1,15 @@
 //! The states that questions are about.
-ghost use Rattle.std.specs.Prelude.{◌≡◌, ◌≤◌, Ok, Err, IfOk, IfErr};
+ghost use Rattle.std.specs.Prelude.{◌≡◌, ◌≤◌, Ok, Err, IfOk, IfErr, option_map};
 ghost use Rattle.heap_pins.specs.Pin.{pin_image};
-ghost use Rattle.heap_trail.specs.Pins.{is_retained};
+ghost use Rattle.heap_trail.specs.Listings.{status_of};
+ghost use Rattle.heap_trail.specs.Pins.{is_retained, pin_at};
 ghost use Rattle.heap_trail.specs.Trail.{retained};
-ghost use Rattle.question_words.specs.Moments.{steps_ago, IsMomentOf, IsRefusedAt, image_at, moment_image};
+ghost use Rattle.question_words.specs.Moments.{ago_at, ago_of_pin, steps_ago, IsMomentOf, IsRefusedAt, image_at, moment_image};
 ghost use Rattle.question_words.specs.declared.at.At.TheVariants.{Current, Place};
 
 use heap_class::Refusal;
 use heap_pins::{Pin, PinView};
-use heap_trail::Machine;
+use heap_trail::{Machine, PinStatus};
 
 /// The state that a question is about.
 #[derive(Clone, Copy)]
@@ -46,6 +47,46 @@ pub fn steps_ago(machine: &Machine, to: Option<u64>) -> Result<u64, Refusal>
             }
         }
     }
+}
+
+/// Returns how many steps ago the state was that a question is about; a pin stands for its place. Fails with NotRetained if the
+/// state isn't retained, with NoPin if no such pin is open, and with Lost and its cause if the pin is lost.
+#[tactic(auto, unfolding(crate::specs::Moments::ago_at))]
+pub fn ago_at(machine: &Machine, at: At) -> Result<u64, Refusal>
+    ensures steps { result ≡ ago_at at machine.now }
+    ensures within { IfOk result (λ ago. ago ≤ retained machine.now.trail) }
+{
+    match at {
+        At::Current => Ok(0),
+        At::Pin(pin) => ago_of_pin(machine, pin),
+        At::Place(place) => steps_ago(machine, Some(place)),
+    }
+}
+
+// Returns how many steps ago the state at the place of a pin was. Fails with NoPin, Lost and NotRetained.
+fn ago_of_pin(machine: &Machine, pin: u64) -> Result<u64, Refusal>
+    ensures steps { result ≡ ago_of_pin (pin_at pin machine.now.pins) machine.now.trail }
+    ensures within { IfOk result (λ ago. ago ≤ retained machine.now.trail) }
+{
+    match status_of_pin(machine, pin) {
+        Some(PinStatus::Kept { place, .. }) => steps_ago(machine, Some(place)),
+        Some(PinStatus::Lost { cause, .. }) => Err(Refusal::Lost { cause }),
+        None => Err(Refusal::NoPin),
+    }
+}
+
+// Returns the status of a pin, or None if no such pin is open.
+fn status_of_pin(machine: &Machine, pin: u64) -> Option<PinStatus>
+    ensures { result ≡ option_map status_of (pin_at pin machine.now.pins) }
+{
+    let mut index = 0;
+    while let Some(listed) = machine.nth_pin(index) {
+        if listed.number == pin {
+            return Some(listed.status);
+        }
+        index += 1;
+    }
+    None
 }
 
 /// Returns the moment that a question is about. Fails with NotRetained if the state of its place isn't retained, and with

@@ -9,7 +9,7 @@ mod ranges;
 mod rows;
 mod slots;
 
-pub use at::{At, Moment, moment_at, steps_ago, view_of};
+pub use at::{At, Moment, ago_at, moment_at, steps_ago, view_of};
 pub use id::{id_of, push_id, push_reference};
 pub use names::{field_name, push_class_name, push_row_name};
 pub use place::{older_line, place_line, place_of_object};

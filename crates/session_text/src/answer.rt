@@ -103,11 +103,13 @@ fn answer_mutators<O: Outlet, C: Commands>(
 ) -> bool
     ensures answered { result ≡ true → (limits : SessionLimits)
         → (time : ℕ) → AreFirstAnswered limits (AnswersCommand C.acts C.unknown time)
-        session.old.buffer commands.old session.old.page (O.seen writer.old) session.new.buffer commands.new session.new.page
+        session.old.buffer commands.old session.old.page (O.seen writer.old)
+        session.new.buffer commands.new session.new.page
         (O.seen writer.new) }
     ensures cut { result ≡ false → (limits : SessionLimits)
         → (time : ℕ) → IsFirstCut limits (AnswersCommand C.acts C.unknown time)
-        (Begins C.acts C.unknown time) session.old.buffer commands.old session.old.page (O.seen writer.old) commands.new
+        (Begins C.acts C.unknown time) session.old.buffer commands.old session.old.page
+        (O.seen writer.old) commands.new
         session.new.page (O.seen writer.new) }
 {
     let Session {
@@ -139,8 +141,8 @@ fn answer_first<O: Outlet, C: Commands>(
 ) -> Option<Flow>
     ensures { IsFirst context.limits (AnswersCommand C.acts C.unknown context.time)
         (Begins C.acts C.unknown context.time)
-        session.old.buffer commands.old session.old.page (O.seen writer.old) session.new.buffer
-        commands.new session.new.page (O.seen writer.new) result }
+        session.old.buffer commands.old session.old.page (O.seen writer.old)
+        session.new.buffer commands.new session.new.page (O.seen writer.new) result }
 {
     let Session {
         buffer,

@@ -34,7 +34,8 @@ pub fn serve<I: Inlet, O: Outlet, C: Commands>(
     ensures ends { EndsSession limits (I.seen reader.old) (I.seen reader.new) (O.seen writer.old)
         (O.seen writer.new) result }
     ensures text { Serves limits (AnswersCommand C.acts C.unknown time)
-        (Begins C.acts C.unknown time) (I.seen reader.old) (I.seen reader.new) commands.old (O.seen writer.old) commands.new
+        (Begins C.acts C.unknown time) (I.seen reader.old) (I.seen reader.new)
+        commands.old (O.seen writer.old) commands.new
         (O.seen writer.new) result }
 {
     let Ok(mut session) = Session::new(alloc) else {

@@ -109,7 +109,7 @@ pub(crate) fn size_at(world: &World, region: u64) -> u64
 }
 
 // Returns the size of a region's cells.
-fn size_of(storage: &RegionView<'_>) -> u64
+pub(crate) fn size_of(storage: &RegionView<'_>) -> u64
     requires { 0 < length storage.now.cells }
     ensures value { result ≡ storage_cell_size storage.now }
     ensures limit { result ≤ heap_words }

@@ -1,37 +1,40 @@
-use Rattle.std.proofs.Common.{◌≡◌, ◌∙◌, ◌++◌, [], ℕ, List, None, Option, ap, arith, length, sym}
-use Rattle.std.specs.Prelude.{flat_map, option_map}
-use Rattle.std.specs.Option.{option_map_or}
+use Rattle.std.proofs.Common.{◌≡◌, ◌∙◌, ◌++◌, ℕ, List, None, Option, Some, ap, arith, get_or, length, sym}
+use Rattle.std.specs.Prelude.{flat_map}
 use Rattle.std.proofs.lemmas.List.{flat_map_more, length_push}
-use Rattle.heap_world.specs.Regions.{UsedRegion, used_at}
-use Rattle.question_rows.specs.RegionLists.{counted_text, region_row}
-use Rattle.question_rows.proofs.UsedRegions.{one_unused, one_used, used_before}
+use Rattle.question_rows.specs.RegionLists.{region_row}
+use Rattle.question_rows.proofs.SummaryRows.{no_summary_row, summary_row}
+use Rattle.question_rows.proofs.UsedRegions.{used_before}
 use Rattle.question_rows.proofs.region_list.push_regions.Goals as goal
 use Rattle.question_rows.proofs.region_list.push_regions.Goals.{in-Some+in_ok-push_region, in_default}
 
 pub loop-region-preserved : goal.loop-region-preserved
 loop-region-preserved c =
-    let rs = c.args.regions.now.regions in
+    let all = c.args.all.now in
     let r = c.loop-region.region in
     let first = c.args.text.now.items in
-    let f = region_row rs in
-    elim c.match-region.branch [
+    elim c.match-all-region.branch [
       | in-Some+in_ok-push_region w ↦
-          let there = w.in-Some.ensures in
-          let more = one_used rs r _ (ap (option_map (λ (u : UsedRegion). u.cell_size)) there) in
-          let longer = ap (λ (l : List ℕ). length l) more ∙ length_push (used_before rs r) r in
-          let row = sym (ap (λ (x : Option UsedRegion). option_map_or (counted_text r) x []) there) in
+          let s = w.in-Some.summary in
           record {
-            lines = ap (λ v. v.items) w.text-is ∙ w.in_ok-push_region.ensures ∙ ap (λ (t : List ℕ). c.loop-region.text.items ++ t) row ∙ ap (λ (t : List ℕ). t ++ f r) c.loop-region.invariant.lines
-                ∙ flat_map_more f first (used_before rs r) r ∙ ap (λ (l : List ℕ). first ++ flat_map f l) (sym more);
-            counted = omega (arith, w.count-is, longer, c.loop-region.invariant.counted);
+            lines = λ regions is.
+                let more = summary_row all regions r s w.in-Some.is is in
+                ap (λ v. v.items) w.text-is ∙ w.in_ok-push_region.ensures ∙ ap (λ (t : List ℕ). c.loop-region.text.items ++ t) (sym more.1)
+                ∙ ap (λ (t : List ℕ). t ++ region_row regions r) (c.loop-region.invariant.lines regions is)
+                ∙ flat_map_more (region_row regions) first (used_before regions r) r ∙ ap (λ (l : List ℕ). first ++ flat_map (region_row regions) l) (sym more.0);
+            counted = λ regions is.
+                let more = summary_row all regions r s w.in-Some.is is in
+                let longer = ap (λ (l : List ℕ). length l) more.0 ∙ length_push (used_before regions r) r in
+                omega (arith, w.count-is, longer, c.loop-region.invariant.counted regions is);
             few = omega (arith, w.count-is, c.loop-region.invariant.few);
           }
       | in_default w ↦
-          let none : option_map (λ (u : UsedRegion). u.cell_size) (used_at rs r) ≡ None = ap (option_map (λ (u : UsedRegion). u.cell_size)) w.in_default.ensures in
-          let same = one_unused rs r none in
           record {
-            lines = ap (λ v. v.items) w.text-is ∙ c.loop-region.invariant.lines ∙ ap (λ (l : List ℕ). first ++ flat_map f l) (sym same);
-            counted = w.count-is ∙ c.loop-region.invariant.counted ∙ sym (ap (λ (l : List ℕ). length l) same);
+            lines = λ regions is.
+                let same = no_summary_row all regions r w.in_default.is is in
+                ap (λ v. v.items) w.text-is ∙ c.loop-region.invariant.lines regions is ∙ ap (λ (l : List ℕ). first ++ flat_map (region_row regions) l) (sym same);
+            counted = λ regions is.
+                let same = no_summary_row all regions r w.in_default.is is in
+                w.count-is ∙ c.loop-region.invariant.counted regions is ∙ sym (ap (λ (l : List ℕ). length l) same);
             few = omega (arith, w.count-is, c.loop-region.invariant.few);
           }
     ]

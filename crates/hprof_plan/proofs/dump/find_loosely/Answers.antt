@@ -1,7 +1,7 @@
 use Rattle.std.proofs.Common.{arith}
 use Rattle.hprof_session.specs.Walks.{left, item_told}
 use Rattle.hprof_plan.proofs.FoundTables.{starts, goes_on, comes_to_end, runs_out, stops}
-use Rattle.hprof_plan.proofs.dump.find.Goals as goal
+use Rattle.hprof_plan.proofs.dump.find_loosely.Goals as goal
 
 pub loop-init : goal.loop-init
 loop-init c = starts (left c.args.walk) _ c.none_found-found.ensures

@@ -1,0 +1,9 @@
+//! Identifiers in the order in which they came, each once, in a table that takes little memory.
+#![tactic(auto)]
+
+mod probing;
+mod table;
+#[cfg(test)]
+mod tests;
+
+pub use table::IdTable;

@@ -1,7 +1,5 @@
 -- Numbers in pages: one is read or written, and a page is made.
-use Rattle.std.proofs.Common.{◌≡◌, ◌≢◌, ◌⊎◌, ℕ, zero, suc, ◌+◌, ◌*◌, ◌/◌, ◌%◌, ◌<◌, ◌≤◌, List, [], ◌∷◌, ◌++◌, length, length-set, map, set, get_or, replicate, inl, inr, refl, sym, ap, subst, ◌∙◌, arith}
-use Rattle.std.specs.List.{range_with_len}
-use Rattle.std.proofs.lemmas.Bool.{cases_lt}
+use Rattle.std.proofs.Common.{◌≡◌, ◌≢◌, ◌⊎◌, ℕ, zero, suc, ◌+◌, ◌*◌, ◌/◌, ◌%◌, ◌<◌, ◌≤◌, List, [], ◌∷◌, ◌++◌, length, length-set, set, get_or, replicate, inl, inr, refl, sym, ap, ◌∙◌, arith}
 use Rattle.std.proofs.lemmas.List.{ext_get_or, length-append, length-replicate, get_or-set_same, get_or-set_other, get_or_past}
 use Rattle.std.proofs.lemmas.List.FromFn.{get_or-map-range_with_len, length-map-range_with_len}
 use Rattle.heap_region.proofs.ChangedLookups.{same_or_not}
@@ -17,7 +15,7 @@ numbers_are_as_many pages numbers count = length-map-range_with_len (number_at p
 
 pub number_is_read : (pages numbers : List ℕ) (count r : ℕ) → r < count → get_or (numbers_of pages numbers count) r 0 ≡ number_at pages numbers r
 unfolding numbers_of
-number_is_read pages numbers count r lt = get_or-map-range_with_len (number_at pages numbers) 0 count r r 0 lt refl
+number_is_read pages numbers count r lt = get_or-map-range_with_len (number_at pages numbers) 0 count r r 0 lt (omega arith)
 
 -- a page that isn't made has zeros alone
 pub number_on_no_page : (numbers : List ℕ) (s k : ℕ) → s ≡ 0 → number_on numbers s k ≡ 0
@@ -36,7 +34,7 @@ pub same_numbers : (pages numbers others more : List ℕ) (count : ℕ) → ((r 
 same_numbers pages numbers others more count each = ext_get_or 0 (numbers_of others more count) (numbers_of pages numbers count)
     (numbers_are_as_many others more count ∙ sym (numbers_are_as_many pages numbers count))
     (λ r lt. let less : r < count = omega (arith, lt, numbers_are_as_many others more count) in
-        number_is_read others more count r less ∙ each r ∙ sym (number_is_read pages numbers count r less))
+    number_is_read others more count r less ∙ each r ∙ sym (number_is_read pages numbers count r less))
 
 -- ---- a number is written
 
@@ -64,7 +62,7 @@ module _ (pages numbers : List ℕ) (capacity r start v : ℕ) (t : ArePages pag
       different (inr ne) e = ne (omega (arith, e, below, at))
 
   other_number_stays : (q : ℕ) → q ≢ r → number_at pages (set numbers place v) q ≡ number_at pages numbers q
-  other_number_stays q ne = other_page_stays (get_or pages (q / 256) 0) (q % 256) (go (same_or_not (q / 256) (r / 256)) ) (omega arith)
+  other_number_stays q ne = other_page_stays (get_or pages (q / 256) 0) (q % 256) (go (same_or_not (q / 256) (r / 256))) (omega arith)
     where
       go : (q / 256 ≡ r / 256) ⊎ (q / 256 ≢ r / 256) → (256 * get_or pages (q / 256) 0 ≢ start + 256) ⊎ (q % 256 ≢ r % 256)
       go (inl same) = inr (λ e. ne (omega (arith, same, e)))
@@ -97,6 +95,10 @@ module _ (pages numbers : List ℕ) (capacity r start v : ℕ) (t : ArePages pag
 
 -- ---- a page is made
 
+-- the numbers of the pages made end where the next page begins
+pub page_numbers_follow : (pages numbers : List ℕ) (capacity : ℕ) → ArePages pages numbers capacity → 256 * (length numbers / 256 + 1) ≡ length numbers + 256
+page_numbers_follow pages numbers capacity t = omega (arith, t.count)
+
 zero_in_zeros : (n c : ℕ) → get_or {A = ℕ} (replicate n 0) c 0 ≡ 0
 zero_in_zeros zero c = refl
 zero_in_zeros (suc n) zero = refl
@@ -111,6 +113,9 @@ module _ (pages numbers : List ℕ) (capacity page : ℕ) (t : ArePages pages nu
   -- there is room for it
   pub room_for_page : length numbers + 256 ≤ capacity
   room_for_page = omega (arith, t.room, t.count, used_number_counts pages page 0 lt none, used_numbers_are_few (set pages page 1), length-set pages page 1)
+
+  pub page_number_is_small : length numbers / 256 + 1 ≤ 65536
+  page_number_is_small = omega (arith, room_for_page, t.few, t.count, used_number_counts pages page 0 lt none, used_numbers_are_few (set pages page 1), length-set pages page 1)
 
   module _ (s : ℕ) (is : 256 * s ≡ length numbers + 256) where
     abbrev made : List ℕ
@@ -187,4 +192,4 @@ pub numbers_are_zeros_at_first : (n count : ℕ) → numbers_of (replicate n 0) 
 numbers_are_zeros_at_first n count = ext_get_or 0 (numbers_of (replicate n 0) [] count) (replicate count 0)
     (numbers_are_as_many (replicate n 0) [] count ∙ sym (length-replicate {A = ℕ} count 0))
     (λ r lt. number_is_read (replicate n 0) [] count r (omega (arith, lt, numbers_are_as_many (replicate n 0) [] count))
-        ∙ number_on_no_page [] (get_or (replicate n 0) (r / 256) 0) (r % 256) (zero_in_zeros n (r / 256)) ∙ sym (zero_in_zeros count r))
+    ∙ number_on_no_page [] (get_or (replicate n 0) (r / 256) 0) (r % 256) (zero_in_zeros n (r / 256)) ∙ sym (zero_in_zeros count r))

@@ -1,5 +1,5 @@
-use Rattle.std.proofs.Common.{◌≡◌, ◌++◌, ◌∷◌, ◌∙◌, ℕ, [], length, replicate, sym, ap, arith}
-use Rattle.std.proofs.lemmas.List.{append_assoc, length-append, length-replicate, replicate_more}
+use Rattle.std.proofs.Common.{ℕ, length, replicate, ap, arith}
+use Rattle.std.proofs.lemmas.List.{length-append, length-replicate}
 use Rattle.heap_pins.proofs.numbers.push_page.Goals as goal
 
 pub push_reserved-requires : goal.push_reserved-requires

@@ -1,4 +1,4 @@
-use Rattle.std.proofs.Common.{◌≡◌, ◌++◌, length, replicate}
+use Rattle.std.proofs.Common.{◌≡◌, ◌++◌, replicate}
 use Rattle.std.specs.Vec.{vec_capacity}
 use Rattle.heap_pins.proofs.numbers.push_page.Given as goal
 

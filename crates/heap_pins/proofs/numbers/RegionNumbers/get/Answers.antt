@@ -1,4 +1,4 @@
-use Rattle.std.proofs.Common.{◌≡◌, ◌<◌, ◌+◌, ◌*◌, ◌-◌, ◌/◌, ◌%◌, ◌∙◌, ℕ, List, length, sym, ap, arith, slice_index_or}
+use Rattle.std.proofs.Common.{◌<◌, ◌+◌, ◌*◌, ◌-◌, ◌/◌, ◌%◌, ◌∙◌, ℕ, List, length, sym, ap, arith, slice_index_or}
 use Rattle.std.proofs.lemmas.List.{get_or_read}
 use Rattle.heap_pins.proofs.NumberPages.{number_is_read, number_on_no_page, number_on_page, numbers_are_as_many}
 use Rattle.heap_pins.proofs.numbers.RegionNumbers.get.Goals as goal
@@ -33,7 +33,7 @@ returns-in_default c =
     let number = get_or_read pages (c.args.region / 256) c.index.result.now below c.index.ensures 0 in
     let start = (c.index.result.now - 1) * 256 in
     let there : start + c.args.region % 256 < length numbers = omega (arith, number, c.in_default, c.self.invariant.1.within (c.args.region / 256)) in
-    sym (get_or_read numbers (start + c.args.region % 256) c.index-in_default.result.now there c.index-in_default.ensures 0)
+    get_or_read numbers (start + c.args.region % 256) c.index-in_default.result.now there c.index-in_default.ensures 0
     ∙ sym (number_on_page numbers (slice_index_or pages (c.args.region / 256) 0) (c.args.region % 256) start (omega (arith, number, c.in_default)))
     ∙ sym (number_is_read pages numbers c.self.inside.count c.args.region less)
     ∙ ap (λ l. slice_index_or l c.args.region 0) c.self.view_is

@@ -3,19 +3,19 @@ use Rattle.std.proofs.Common.{◌≡◌, ◌≢◌, ◌⊎◌, ℕ, zero, suc, �
 use Rattle.std.proofs.lemmas.List.{ext_get_or, length-append, length-replicate, get_or-set_same, get_or-set_other, get_or_past}
 use Rattle.std.proofs.lemmas.List.FromFn.{get_or-map-range_with_len, length-map-range_with_len}
 use Rattle.heap_region.proofs.ChangedLookups.{same_or_not}
-use Rattle.heap_pins.specs.Numbers.{ArePages, number_at, number_on, numbers_of}
+use Rattle.heap_pins.specs.Numbers.{ArePages, region_number, number_on, region_numbers}
 use Rattle.heap_pins.specs.Slots.{count_used}
-use Rattle.heap_pins.proofs.SlotTables.{used_number_counts, used_numbers_are_few, zeros_are_not_used}
+use Rattle.heap_pins.proofs.SlotTables.{used_number_counts, used_numbers_are_few, zero_in_zeros, zeros_are_not_used}
 
 -- ---- one number
 
-pub numbers_are_as_many : (pages numbers : List ℕ) (count : ℕ) → length (numbers_of pages numbers count) ≡ count
-unfolding numbers_of
-numbers_are_as_many pages numbers count = length-map-range_with_len (number_at pages numbers) 0 count
+pub numbers_are_as_many : (pages numbers : List ℕ) (count : ℕ) → length (region_numbers pages numbers count) ≡ count
+unfolding region_numbers
+numbers_are_as_many pages numbers count = length-map-range_with_len (region_number pages numbers) 0 count
 
-pub number_is_read : (pages numbers : List ℕ) (count r : ℕ) → r < count → get_or (numbers_of pages numbers count) r 0 ≡ number_at pages numbers r
-unfolding numbers_of
-number_is_read pages numbers count r lt = get_or-map-range_with_len (number_at pages numbers) 0 count r r 0 lt (omega arith)
+pub number_is_read : (pages numbers : List ℕ) (count r : ℕ) → r < count → get_or (region_numbers pages numbers count) r 0 ≡ region_number pages numbers r
+unfolding region_numbers
+number_is_read pages numbers count r lt = get_or-map-range_with_len (region_number pages numbers) 0 count r r 0 lt (omega arith)
 
 -- a page that isn't made has zeros alone
 pub number_on_no_page : (numbers : List ℕ) (s k : ℕ) → s ≡ 0 → number_on numbers s k ≡ 0
@@ -30,8 +30,8 @@ number_on_page numbers zero k start e = absurd (omega (arith, e))
 number_on_page numbers (suc p) k start e = ap (λ i. get_or numbers i 0) (let g : 256 * p + k ≡ start + k = omega (arith, e) in g)
 
 -- tables of as many regions whose numbers are alike are the same
-pub same_numbers : (pages numbers others more : List ℕ) (count : ℕ) → ((r : ℕ) → number_at others more r ≡ number_at pages numbers r) → numbers_of others more count ≡ numbers_of pages numbers count
-same_numbers pages numbers others more count each = ext_get_or 0 (numbers_of others more count) (numbers_of pages numbers count)
+pub same_numbers : (pages numbers others more : List ℕ) (count : ℕ) → ((r : ℕ) → region_number others more r ≡ region_number pages numbers r) → region_numbers others more count ≡ region_numbers pages numbers count
+same_numbers pages numbers others more count each = ext_get_or 0 (region_numbers others more count) (region_numbers pages numbers count)
     (numbers_are_as_many others more count ∙ sym (numbers_are_as_many pages numbers count))
     (λ r lt. let less : r < count = omega (arith, lt, numbers_are_as_many others more count) in
     number_is_read others more count r less ∙ each r ∙ sym (number_is_read pages numbers count r less))
@@ -45,7 +45,7 @@ module _ (pages numbers : List ℕ) (capacity r start v : ℕ) (t : ArePages pag
   place_is_there : place < length numbers
   place_is_there = omega (arith, t.within (r / 256), at)
 
-  number_written : number_at pages (set numbers place v) r ≡ v
+  number_written : region_number pages (set numbers place v) r ≡ v
   number_written = number_on_page (set numbers place v) (get_or pages (r / 256) 0) (r % 256) start at ∙ get_or-set_same numbers place v 0 place_is_there
 
   -- a page whose number isn't written at this place
@@ -61,7 +61,7 @@ module _ (pages numbers : List ℕ) (capacity r start v : ℕ) (t : ArePages pag
           page_count = at
       different (inr ne) e = ne (omega (arith, e, below, at))
 
-  other_number_stays : (q : ℕ) → q ≢ r → number_at pages (set numbers place v) q ≡ number_at pages numbers q
+  other_number_stays : (q : ℕ) → q ≢ r → region_number pages (set numbers place v) q ≡ region_number pages numbers q
   other_number_stays q ne = other_page_stays (get_or pages (q / 256) 0) (q % 256) (go (same_or_not (q / 256) (r / 256))) (omega arith)
     where
       go : (q / 256 ≡ r / 256) ⊎ (q / 256 ≢ r / 256) → (256 * get_or pages (q / 256) 0 ≢ start + 256) ⊎ (q % 256 ≢ r % 256)
@@ -71,18 +71,18 @@ module _ (pages numbers : List ℕ) (capacity r start v : ℕ) (t : ArePages pag
         | inr same ↦ other same
       ])
 
-  pub number_is_written : (count : ℕ) → r < count → numbers_of pages (set numbers place v) count ≡ set (numbers_of pages numbers count) r v
-  number_is_written count lt = ext_get_or 0 (numbers_of pages (set numbers place v) count) (set (numbers_of pages numbers count) r v)
-      (numbers_are_as_many pages (set numbers place v) count ∙ sym (length-set (numbers_of pages numbers count) r v ∙ numbers_are_as_many pages numbers count))
+  pub number_is_written : (count : ℕ) → r < count → region_numbers pages (set numbers place v) count ≡ set (region_numbers pages numbers count) r v
+  number_is_written count lt = ext_get_or 0 (region_numbers pages (set numbers place v) count) (set (region_numbers pages numbers count) r v)
+      (numbers_are_as_many pages (set numbers place v) count ∙ sym (length-set (region_numbers pages numbers count) r v ∙ numbers_are_as_many pages numbers count))
       (λ q less. each q (omega (arith, less, numbers_are_as_many pages (set numbers place v) count)) (same_or_not q r))
     where
-      each : (q : ℕ) → q < count → (q ≡ r) ⊎ (q ≢ r) → get_or (numbers_of pages (set numbers place v) count) q 0 ≡ get_or (set (numbers_of pages numbers count) r v) q 0
+      each : (q : ℕ) → q < count → (q ≡ r) ⊎ (q ≢ r) → get_or (region_numbers pages (set numbers place v) count) q 0 ≡ get_or (set (region_numbers pages numbers count) r v) q 0
       each q less (inl same) =
-          number_is_read pages (set numbers place v) count q less ∙ ap (number_at pages (set numbers place v)) same ∙ number_written
-          ∙ sym (ap (λ j. get_or (set (numbers_of pages numbers count) r v) j 0) same ∙ get_or-set_same (numbers_of pages numbers count) r v 0 (omega (arith, lt, numbers_are_as_many pages numbers count)))
+          number_is_read pages (set numbers place v) count q less ∙ ap (region_number pages (set numbers place v)) same ∙ number_written
+          ∙ sym (ap (λ j. get_or (set (region_numbers pages numbers count) r v) j 0) same ∙ get_or-set_same (region_numbers pages numbers count) r v 0 (omega (arith, lt, numbers_are_as_many pages numbers count)))
       each q less (inr ne) =
           number_is_read pages (set numbers place v) count q less ∙ other_number_stays q ne ∙ sym (number_is_read pages numbers count q less)
-          ∙ sym (get_or-set_other (numbers_of pages numbers count) r q v 0 ne)
+          ∙ sym (get_or-set_other (region_numbers pages numbers count) r q v 0 ne)
 
   pub written_pages_are_pages : ArePages pages (set numbers place v) capacity
   written_pages_are_pages = record {
@@ -98,11 +98,6 @@ module _ (pages numbers : List ℕ) (capacity r start v : ℕ) (t : ArePages pag
 -- the numbers of the pages made end where the next page begins
 pub page_numbers_follow : (pages numbers : List ℕ) (capacity : ℕ) → ArePages pages numbers capacity → 256 * (length numbers / 256 + 1) ≡ length numbers + 256
 page_numbers_follow pages numbers capacity t = omega (arith, t.count)
-
-zero_in_zeros : (n c : ℕ) → get_or {A = ℕ} (replicate n 0) c 0 ≡ 0
-zero_in_zeros zero c = refl
-zero_in_zeros (suc n) zero = refl
-zero_in_zeros (suc n) (suc c) = zero_in_zeros n c
 
 zeros_behind : (numbers : List ℕ) (n c : ℕ) → get_or (numbers ++ replicate n 0) c 0 ≡ get_or numbers c 0
 zeros_behind [] n c = zero_in_zeros n c
@@ -129,10 +124,10 @@ module _ (pages numbers : List ℕ) (capacity page : ℕ) (t : ArePages pages nu
     on_old_page zero k = refl
     on_old_page (suc p) k = zeros_behind numbers 256 (256 * p + k)
 
-    pub numbers_stay : (r : ℕ) → number_at made more r ≡ number_at pages numbers r
+    pub numbers_stay : (r : ℕ) → region_number made more r ≡ region_number pages numbers r
     numbers_stay r = on_old_page (get_or made (r / 256) 0) (r % 256) ∙ go (same_or_not (r / 256) page)
       where
-        go : (r / 256 ≡ page) ⊎ (r / 256 ≢ page) → number_on numbers (get_or made (r / 256) 0) (r % 256) ≡ number_at pages numbers r
+        go : (r / 256 ≡ page) ⊎ (r / 256 ≢ page) → number_on numbers (get_or made (r / 256) 0) (r % 256) ≡ region_number pages numbers r
         go (inl same) =
             number_on_page numbers (get_or made (r / 256) 0) (r % 256) (length numbers) (ap (λ n. 256 * n) (ap (λ j. get_or made j 0) same ∙ get_or-set_same pages page s 0 lt) ∙ is)
             ∙ get_or_past numbers (length numbers + r % 256) 0 (omega arith)
@@ -188,8 +183,8 @@ no_pages_are_pages n capacity few room = record {
   apart = λ p q same. inl (zero_in_zeros n q);
 }
 
-pub numbers_are_zeros_at_first : (n count : ℕ) → numbers_of (replicate n 0) [] count ≡ replicate count 0
-numbers_are_zeros_at_first n count = ext_get_or 0 (numbers_of (replicate n 0) [] count) (replicate count 0)
+pub numbers_are_zeros_at_first : (n count : ℕ) → region_numbers (replicate n 0) [] count ≡ replicate count 0
+numbers_are_zeros_at_first n count = ext_get_or 0 (region_numbers (replicate n 0) [] count) (replicate count 0)
     (numbers_are_as_many (replicate n 0) [] count ∙ sym (length-replicate {A = ℕ} count 0))
     (λ r lt. number_is_read (replicate n 0) [] count r (omega (arith, lt, numbers_are_as_many (replicate n 0) [] count))
     ∙ number_on_no_page [] (get_or (replicate n 0) (r / 256) 0) (r % 256) (zero_in_zeros n (r / 256)) ∙ sym (zero_in_zeros count r))

@@ -198,6 +198,11 @@ unseen_change_shows_nothing g slots kept room r i y x t lt e there is same =
 
 -- ---- the start
 
+pub zero_in_zeros : (n c : ℕ) → get_or {A = ℕ} (replicate n 0) c 0 ≡ 0
+zero_in_zeros zero c = refl
+zero_in_zeros (suc n) zero = refl
+zero_in_zeros (suc n) (suc c) = zero_in_zeros n c
+
 pub no_slots_are_slots : (n room : ℕ) → n ≤ 65536 → n ≤ room → AreSlots (replicate n 0) [] room
 no_slots_are_slots n room few fits = record {
   few = omega (arith, few, length-replicate {A = ℕ} n 0);
@@ -206,11 +211,6 @@ no_slots_are_slots n room few fits = record {
   within = λ r. omega (arith, zero_in_zeros n r);
   apart = λ q r same. inl (zero_in_zeros n r);
 }
-  where
-    zero_in_zeros : (n c : ℕ) → get_or {A = ℕ} (replicate n 0) c 0 ≡ 0
-    zero_in_zeros zero c = refl
-    zero_in_zeros (suc n) zero = refl
-    zero_in_zeros (suc n) (suc c) = zero_in_zeros n c
 
 seen_in_nothing : {T : Type 0} (g : Option KeptRegion → T) (n : ℕ) → seen_by g [] (replicate n 0) ≡ replicate n (g None)
 unfolding item_at

@@ -10,12 +10,12 @@ number_on numbers zero k = 0
 number_on numbers (suc p) k = slice_index_or numbers (256 * p + k) 0
 
 -- the number of region r
-abbrev pub number_at : List ℕ → List ℕ → ℕ → ℕ
-number_at pages numbers r = number_on numbers (slice_index_or pages (r / 256) 0) (r % 256)
+abbrev pub region_number : List ℕ → List ℕ → ℕ → ℕ
+region_number pages numbers r = number_on numbers (slice_index_or pages (r / 256) 0) (r % 256)
 
 -- the numbers of the first `count` regions
-unfoldable pub numbers_of : List ℕ → List ℕ → ℕ → List ℕ
-numbers_of pages numbers count = map (number_at pages numbers) (range_with_len 0 count)
+unfoldable pub region_numbers : List ℕ → List ℕ → ℕ → List ℕ
+region_numbers pages numbers count = map (region_number pages numbers) (range_with_len 0 count)
 
 -- each page made has its own numbers, and there is room for those of all pages
 pub record ArePages (pages numbers : List ℕ) (capacity : ℕ) : Type 0 where

@@ -2,7 +2,7 @@
 ghost use Rattle.std.specs.Prelude.{◌≡◌, ◌+◌, ◌*◌, ◌<◌, ◌≤◌, ◌++◌, ℕ, length, IfOk, replicate, slice_index_or, slice_set};
 ghost use Rattle.std.specs.Vec.{vec_capacity};
 ghost use Rattle.heap_region.specs.Limits.{region_limit};
-ghost use Rattle.heap_pins.specs.Numbers.{ArePages, number_at};
+ghost use Rattle.heap_pins.specs.Numbers.{ArePages, region_number};
 
 use std::alloc::{AllocError, Global};
 use std::marker::Model;
@@ -26,11 +26,11 @@ impl Model for RegionNumbers {
     ghost use Rattle.std.specs.Prelude.{◌*◌, ◌≤◌, ℕ, List, length};
     ghost use Rattle.std.specs.Vec.{vec_capacity};
     ghost use Rattle.heap_region.specs.Limits.{region_limit};
-    ghost use Rattle.heap_pins.specs.Numbers.{ArePages, numbers_of};
+    ghost use Rattle.heap_pins.specs.Numbers.{ArePages, region_numbers};
 
     ghost Value = { List ℕ };
 
-    ghost view = { λ t. numbers_of t.pages.items t.numbers.items t.count };
+    ghost view = { λ t. region_numbers t.pages.items t.numbers.items t.count };
 
     ghost invariant = { λ t. (t.count ≤ 256 * length t.pages.items)
         × ArePages t.pages.items t.numbers.items (vec_capacity t.numbers) };
@@ -84,8 +84,8 @@ fn page_start(pages: &mut Vec<u32>, numbers: &mut Vec<u32>, page: usize) -> usiz
     ensures table { ArePages pages.new.items numbers.new.items (vec_capacity numbers.new) }
     ensures count { length pages.new.items ≡ length pages.old.items }
     ensures start { 256 * slice_index_or pages.new.items page 0 ≡ result + 256 }
-    ensures same { (r : ℕ) → number_at pages.new.items numbers.new.items r
-        ≡ number_at pages.old.items numbers.old.items r }
+    ensures same { (r : ℕ) → region_number pages.new.items numbers.new.items r
+        ≡ region_number pages.old.items numbers.old.items r }
 {
     match pages[page] {
         0 => add_page(pages, numbers, page),
@@ -102,8 +102,8 @@ fn add_page(pages: &mut Vec<u32>, numbers: &mut Vec<u32>, page: usize) -> usize
     ensures table { ArePages pages.new.items numbers.new.items (vec_capacity numbers.new) }
     ensures count { length pages.new.items ≡ length pages.old.items }
     ensures start { 256 * slice_index_or pages.new.items page 0 ≡ result + 256 }
-    ensures same { (r : ℕ) → number_at pages.new.items numbers.new.items r
-        ≡ number_at pages.old.items numbers.old.items r }
+    ensures same { (r : ℕ) → region_number pages.new.items numbers.new.items r
+        ≡ region_number pages.old.items numbers.old.items r }
 {
     let start = numbers.len();
     push_page(numbers);

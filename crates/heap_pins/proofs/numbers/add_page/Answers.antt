@@ -1,6 +1,6 @@
 use Rattle.std.proofs.Common.{◌≡◌, ◌+◌, ◌*◌, ◌/◌, ◌++◌, length, replicate, set, sym, subst, arith}
 use Rattle.std.specs.Vec.{vec_capacity}
-use Rattle.heap_pins.specs.Numbers.{ArePages, number_at}
+use Rattle.heap_pins.specs.Numbers.{ArePages, region_number}
 use Rattle.heap_pins.proofs.NumberPages.{made_pages_are_pages, numbers_stay, page_number_is_small, page_numbers_follow, room_for_page}
 use Rattle.heap_pins.proofs.numbers.add_page.Goals as goal
 
@@ -31,5 +31,5 @@ returns-clause-same c =
     let numbers = c.args.numbers.now.items in
     let page_count : c.len-start.result ≡ length numbers = omega (arith, c.len-start.ensures, c.args.numbers.now.ok.0) in
     let follows : 256 * (c.len-start.result / 256 + 1) ≡ length numbers + 256 = omega (arith, page_count, page_numbers_follow pages numbers (vec_capacity c.args.numbers.now) c.requires.table) in
-    λ r. subst (λ ns. number_at (set pages c.args.page (c.len-start.result / 256 + 1)) ns r ≡ number_at pages numbers r) (sym c.push_page.ensures.items)
+    λ r. subst (λ ns. region_number (set pages c.args.page (c.len-start.result / 256 + 1)) ns r ≡ region_number pages numbers r) (sym c.push_page.ensures.items)
     (numbers_stay pages numbers (vec_capacity c.args.numbers.now) c.args.page c.requires.table c.requires.page c.requires.none (c.len-start.result / 256 + 1) follows r)

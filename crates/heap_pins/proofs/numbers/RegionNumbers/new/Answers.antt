@@ -1,7 +1,7 @@
 use Rattle.std.proofs.Common.{◌≡◌, ◌+◌, ◌/◌, ◌∙◌, ℕ, List, length, replicate, sym, ap, subst, arith}
 use Rattle.std.specs.Vec.{vec_capacity}
 use Rattle.std.proofs.lemmas.List.{length-replicate}
-use Rattle.heap_pins.specs.Numbers.{ArePages, numbers_of}
+use Rattle.heap_pins.specs.Numbers.{ArePages, region_numbers}
 use Rattle.heap_pins.proofs.NumberPages.{no_pages_are_pages, numbers_are_zeros_at_first}
 use Rattle.heap_pins.proofs.numbers.RegionNumbers.new.Goals as goal
 
@@ -20,4 +20,4 @@ pub returns : goal.returns
 returns c =
     let n = c.args.count / 256 + 1 in
     let zeros : c.in_ok-pages.pages.items ≡ replicate n 0 = c.in_ok-pages.ensures.items_if_clones_equal (search) in
-    (λ j. numbers_of (zeros j) (c.in_ok-numbers.ensures.items j) c.args.count) ∙ numbers_are_zeros_at_first n c.args.count
+    (λ j. region_numbers (zeros j) (c.in_ok-numbers.ensures.items j) c.args.count) ∙ numbers_are_zeros_at_first n c.args.count

@@ -363,7 +363,8 @@ record_tells_regions (Reclaim region storage) e before after s = reclaim_tells_r
 
 -- ---- regions of a legal heap
 
-region_told : (regions : List Region) (r : ℕ) (s : RegionSummary) → get_or (summaries regions) r None ≡ Some s → (u : UsedRegion) × (used_at regions r ≡ Some u) × (summary_of u ≡ s)
+-- what is told of a region is told of one in use
+pub region_told : (regions : List Region) (r : ℕ) (s : RegionSummary) → get_or (summaries regions) r None ≡ Some s → (u : UsedRegion) × (used_at regions r ≡ Some u) × (summary_of u ≡ s)
 unfolding used_at
 region_told [] r s e = absurd (none-some s e)
 region_told (Empty ∷ xs) zero s e = absurd (none-some s e)

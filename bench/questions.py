@@ -6,7 +6,7 @@ three links each to nodes at random, and has 65,536 retained steps; `checks/larg
 them the processor's time that the program takes in each heap, as the kernel counts it for the program alone, what it may take, and
 how many bytes the longest answer has; then the memory that the program has taken at most. A time that is larger than it may be
 stands in bold face. Standard error tells each time as it is taken. Questions about the oldest state are left out in large heaps,
-whose steps are as many."""
+whose steps are as many. The program asks for huge pages, as heapdbg-explore has it do; `PAGES=small` measures it without them."""
 import os
 import pathlib
 import sys
@@ -79,5 +79,7 @@ def main(program, sizes):
 
 
 if __name__ == "__main__":
+    if os.environ.get("PAGES") != "small":
+        os.environ["GLIBC_TUNABLES"] = "glibc.malloc.hugetlb=1"
     PROGRAM = os.path.abspath(sys.argv[1]) if len(sys.argv) > 1 else os.path.join(TOP, "bin/heapdbg")
     main(PROGRAM, [int(word) for word in sys.argv[2:]] or SIZES)

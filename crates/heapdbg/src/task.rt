@@ -1,6 +1,7 @@
 //! The tasks, from the words of the command line on.
 ghost use Rattle.std.specs.Prelude.{◌≡◌, ◌⊎◌, ◌≤◌, Some, IfOk, IfErr, map, string_bytes};
 ghost use Rattle.std.specs.IoError.{error_kind};
+ghost use denote.Param.Send.{IsSend};
 ghost use Rattle.heapdbg_options.specs.CommandLine.{AreSettingsWithin, IsBadWith, IsHeapWithin, settings_of};
 ghost use Rattle.heapdbg_options.specs.Refusals.{IsRefusalOf};
 ghost use Rattle.heapdbg_options.specs.declared.settings.Task.TheVariants.{Explore, Save};
@@ -12,6 +13,7 @@ use crate::ask::ask_port;
 use crate::fetch::{FetchEnd, fetch_port};
 use crate::page_exploration::explore_with_page;
 use crate::serve::serve_port;
+use answer_ticker::{TickedInlet, TickedOutlet, Ticker};
 use dump_pump::{Outlet, WriteOutlet};
 use heap_console::{
     ColumnOutlet, Console, LineInlet, LoggedInlet, LoggedOutlet, NewestLine, NotingOutlet,
@@ -40,10 +42,11 @@ use std::rt::Env;
 use std::sync::Wait;
 use std::thread::Threads;
 use std::time::Clock;
-use std::{env, io};
+use std::{env, io, thread};
 
 /// Reads the command line, and does the task that it asks for between standard input and standard output. At terminals `explore`
-/// prompts, and shows rows in columns, and a line of it may begin a log. `draw` reports lines that are refused.
+/// prompts, shows for how long a line is being answered, and shows rows in columns, and a line of it may begin a log. `draw` reports
+/// lines that are refused.
 pub(crate) fn perform<R>(rt: &R, terminals: Terminals) -> Result<(), Failure>
 where
     R: AllocGlobal + Clock + Env + Eprint + Files + Input + Print,
@@ -51,28 +54,30 @@ where
     R: Copy + Send + Sync + Drop + 'static,
     R::Reader: Send + 'static,
 {
-    let words: Vec<String> = match env::args(rt) {
+    let given: Vec<String> = match env::args(rt) {
         Ok(words) => words.collect(rt.alloc()).map_err(|_| Fault::Memory)?,
         Err(error) => return Err(unread(rt.alloc(), &error).into()),
     };
+    let words = given.as_slice();
     let console = Console::new();
     let screen = Screen {
         is_terminal: terminals.error,
         console: &console,
     };
-    let explores = asks_for(words.as_slice(), "explore");
+    let explores = asks_for(words, "explore");
     let shows = explores && terminals.output;
     let log = SessionLog::new(rt.alloc());
+    let ticker = Ticker::new(rt.alloc());
     let reader = ReadInlet::new(rt.reader());
     if explores && terminals.input && terminals.error {
         let reader = PromptInlet::new(rt, rt.alloc(), &console, reader);
-        let mut reader = LoggedInlet::new(rt, &log, reader);
-        perform_shown(rt, words.as_slice(), &mut reader, screen, &log, shows)
-    } else if asks_for(words.as_slice(), "draw") {
-        perform_reported(rt, words.as_slice(), screen, &log)
+        let reader = LoggedInlet::new(rt, &log, reader);
+        perform_prompted(rt, words, reader, screen, &log, &ticker, shows)
+    } else if asks_for(words, "draw") {
+        perform_reported(rt, words, screen, &log)
     } else {
         let mut reader = LoggedInlet::new(rt, &log, reader);
-        perform_shown(rt, words.as_slice(), &mut reader, screen, &log, shows)
+        perform_shown(rt, words, &mut reader, screen, &log, &ticker, shows)
     }
 }
 
@@ -95,13 +100,75 @@ fn asks_for(words: &[String], name: &str) -> bool {
     }
 }
 
-// Does the task that the words ask for between a reader and standard output. `shows` tells whether rows are shown in columns.
+// Does the task that the words ask for between a person and standard output, while a thread shows for how long a line is being
+// answered, unless they ask for no progress. If there can't be such a thread, nothing is shown.
+fn perform_prompted<R, I: Inlet + Drop>(
+    rt: &R,
+    words: &[String],
+    reader: I,
+    screen: Screen<'_>,
+    log: &SessionLog<WriteOutlet<R::File>>,
+    ticker: &Ticker,
+    shows: bool,
+) -> Result<(), Failure>
+where
+    R: AllocGlobal + Clock + Eprint + Files + Input + Print,
+    R: Net<Listener = TcpListener, Stream = TcpStream> + Threads + Wait + RandomSource,
+    R: Copy + Send + Sync + Drop + 'static,
+    R::Reader: Send + 'static,
+{
+    let ticks = shows_progress(rt.alloc(), words);
+    thread::scope(
+        thread::scope_env(),
+        rt,
+        move |scope| -> Result<(), Failure>
+            requires { IsSend R.Reader.row }
+        {
+            let thread = if ticks {
+                scope.spawn(move || ticker.tick(rt)).ok()
+            } else {
+                None
+            };
+            let mut reader = TickedInlet::new(rt, ticker, reader);
+            let done = perform_shown(rt, words, &mut reader, screen, log, ticker, shows);
+            ticker.stop(rt);
+            if let Some(thread) = thread {
+                thread.join(rt);
+            }
+            done
+        },
+    )
+}
+
+// Tells whether the words ask for a task that shows its progress at a terminal.
+fn shows_progress(alloc: Global, words: &[String]) -> bool {
+    match settings_of_words(alloc, words) {
+        Ok(settings) => !settings.quiet,
+        Err(_) => false,
+    }
+}
+
+// Returns the settings that the words ask for.
+fn settings_of_words(alloc: Global, words: &[String]) -> Result<Settings, LineFault>
+    ensures ok { IfOk result (λ s. settings_of (map string_bytes words.now) ≡ Some s) }
+    ensures refused { IfErr result (IsRefusalOf (map string_bytes words.now)) }
+    ensures limits { IfOk result AreSettingsWithin }
+{
+    match borrow_words(alloc, words) {
+        Ok(line) => settings(alloc, line.as_slice()),
+        Err(_) => Err(LineFault::Memory),
+    }
+}
+
+// Does the task that the words ask for between a reader and standard output. `shows` tells whether rows are shown in columns, before
+// which a ticker clears what it shows.
 fn perform_shown<R, I: Inlet>(
     rt: &R,
     words: &[String],
     reader: &mut I,
     screen: Screen<'_>,
     log: &SessionLog<WriteOutlet<R::File>>,
+    ticker: &Ticker,
     shows: bool,
 ) -> Result<(), Failure>
 where
@@ -114,7 +181,8 @@ where
     let writer = WriteOutlet::new(io::writer(rt));
     if shows {
         let writer = ColumnOutlet::new(rt.alloc(), screen.console, writer);
-        let mut writer = LoggedOutlet::new(rt, log, writer);
+        let writer = LoggedOutlet::new(rt, log, writer);
+        let mut writer = TickedOutlet::new(rt, ticker, writer);
         perform_words(rt, words, reader, input, &mut writer, screen, log)
     } else {
         let mut writer = LoggedOutlet::new(rt, log, writer);
@@ -156,18 +224,6 @@ where
     };
     work(rt, request, screen, log, reader, input, writer)?;
     Ok(())
-}
-
-// Returns the settings that the words ask for.
-fn settings_of_words(alloc: Global, words: &[String]) -> Result<Settings, LineFault>
-    ensures ok { IfOk result (λ s. settings_of (map string_bytes words.now) ≡ Some s) }
-    ensures refused { IfErr result (IsRefusalOf (map string_bytes words.now)) }
-    ensures limits { IfOk result AreSettingsWithin }
-{
-    match borrow_words(alloc, words) {
-        Ok(line) => settings(alloc, line.as_slice()),
-        Err(_) => Err(LineFault::Memory),
-    }
 }
 
 // Returns the words as text. Fails with Memory.

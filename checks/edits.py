@@ -31,8 +31,9 @@ ROUND = 40
 REFUSED, BAD, LET_THROUGH, UNCLEAR = "refused", "BAD EDIT", "LET THROUGH", "NO VERDICT"
 FUNCTION = re.compile(r"^( *)(?:pub(?:\(\w+\))? )?(?:const |unsafe )*fn (\w+)", re.MULTILINE)
 OWNER = re.compile(r"^(?:pub(?:\(\w+\))? )?(?:impl|trait)\b.*", re.MULTILINE)
-# An error that only says that a proof cites a name which the edit took away, or what such an error leads to.
-LOST_NAME = re.compile(r"has no field|is not a field of record|is not in scope|has no `|was not admitted|which was rejected|: module `[^`]*`$")
+# An error that only says that a proof cites a name which the edit took away, or what such an error leads to. A long one says that a
+# record has no field in its second line.
+LOST_NAME = re.compile(r"has no field|: record `[^`]*` \(nearest: |is not a field of record|is not in scope|has no `|was not admitted|which was rejected|: module `[^`]*`$")
 # What is said of a function that is proved: `fn NAME: proved`, or `fn NAME: proved, may wait`.
 PROVED = re.compile(r"fn \S+: proved(, .*)?$")
 PLACE = re.compile(r"(?:\./)?(src/\S+?):(\d+):\d+: error\[")

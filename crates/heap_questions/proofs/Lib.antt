@@ -9,8 +9,10 @@ pub mod OtherRegisters
 pub mod Halving
 pub mod ToldNodes
 pub mod Reaching
+pub mod CutObjects
 pub mod CutPaths
 pub mod Retained
+pub mod Beyond
 pub mod KeptObjects
 pub mod NamedObjects
 pub mod RankedRows

@@ -32,7 +32,7 @@ REFUSED, BAD, LET_THROUGH, UNCLEAR = "refused", "BAD EDIT", "LET THROUGH", "NO V
 FUNCTION = re.compile(r"^( *)(?:pub(?:\(\w+\))? )?(?:const |unsafe )*fn (\w+)", re.MULTILINE)
 OWNER = re.compile(r"^(?:pub(?:\(\w+\))? )?(?:impl|trait)\b.*", re.MULTILINE)
 # An error that only says that a proof cites a name which the edit took away, or what such an error leads to.
-LOST_NAME = re.compile(r"has no field|is not in scope|has no `|was not admitted|which was rejected|: module `[^`]*`$")
+LOST_NAME = re.compile(r"has no field|is not a field of record|is not in scope|has no `|was not admitted|which was rejected|: module `[^`]*`$")
 # What is said of a function that is proved: `fn NAME: proved`, or `fn NAME: proved, may wait`.
 PROVED = re.compile(r"fn \S+: proved(, .*)?$")
 PLACE = re.compile(r"(?:\./)?(src/\S+?):(\d+):\d+: error\[")

@@ -1,5 +1,5 @@
 -- Finding a node by halves.
-use Rattle.std.proofs.Common.{◌≡◌, ◌≢◌, ℕ, ◌+◌, ◌-◌, ◌<◌, ◌≤◌, true, false, ltb, ltb-true, ltb-false, cond, List, length, get_or, sym, ap, subst, ◌∙◌, inl, inr, arith}
+use Rattle.std.proofs.Common.{◌≡◌, ◌≢◌, ℕ, ◌+◌, ◌-◌, ◌<◌, ◌≤◌, true, false, ltb, ltb-true, ltb-false, cond, List, length, get_or, sym, ap, ◌∙◌, inl, inr, arith}
 use Rattle.std.specs.Prelude.{slice_get, Some, None, ◌==◌}
 use Rattle.std.specs.List.{AllWithin, position_or_len}
 use Rattle.std.specs.List.Sorted.{IsNonDecreasingBy}
@@ -45,16 +45,6 @@ rising_all nodes n l h i j a b le p q = h i j a b le (omega (arith, l, slice_get
 
 -- ---- halves
 
-pub more_below : (nodes : List Node) (m x : ℕ) (d : Node) → AreRising nodes → m < length nodes → (get_or nodes m d).id < x → AreSmallerBefore nodes (m + 1) x
-more_below nodes m x d r lt h k n l e =
-    let w = r k m n (get_or nodes m d) (omega (arith, l)) e (slice_get-get_or nodes m d lt) in
-    omega (arith, w, h)
-
-pub more_from : (nodes : List Node) (m x : ℕ) (d : Node) → AreRising nodes → m < length nodes → x ≤ (get_or nodes m d).id → AreFrom nodes m x
-more_from nodes m x d r lt h k n l e =
-    let w = r m k (get_or nodes m d) n l (slice_get-get_or nodes m d lt) e in
-    omega (arith, w, h)
-
 before : (nodes : List Node) (first x k : ℕ) (d : Node) → AreSmallerBefore nodes first x → first ≤ length nodes → k < first → ((get_or nodes k d).id == x) ≡ false
 before nodes first x k d b l lt =
     let h = b k (get_or nodes k d) lt (slice_get-get_or nodes k d (omega (arith, l, lt))) in
@@ -76,19 +66,6 @@ none_by_halves nodes first x d b f l ne r =
           ne_eqb _ x (λ e. ne (omega (arith, h, ge)) (omega (arith, w, g, e)))
     ]) (λ h. absurd (omega (arith, h))) in
     sym (ap (λ b. cond b (Some (position_or_len (λ n. n.id == x) nodes)) None) (le-ltb _ _ (omega (arith, at))))
-
--- ---- a guess
-
-pub none_below : (nodes : List Node) (p x : ℕ) → p ≡ 0 → AreSmallerBefore nodes p x
-none_below nodes p x z k n l e = absurd (omega (arith, z, l))
-
-pub all_below : (nodes : List Node) (p x : ℕ) (d : Node) → AreRising nodes → p ≢ 0 → p ≤ length nodes → (get_or nodes (p - 1) d).id < x → AreSmallerBefore nodes p x
-all_below nodes p x d r nz l h =
-    let one : p - 1 + 1 ≡ p = omega (arith, nz) in
-    subst (λ q. AreSmallerBefore nodes q x) one (more_below nodes (p - 1) x d r (omega (arith, nz, l)) h)
-
-pub none_from : (nodes : List Node) (p x : ℕ) → p ≡ length nodes → AreFrom nodes p x
-none_from nodes p x z k n l e = absurd (omega (arith, z, l, slice_get_within nodes k n e))
 
 -- rising nodes have rising ids
 pub rising_ids : (nodes : List Node) → AreRising nodes → IsNonDecreasingBy (λ (n : Node). n.id) nodes

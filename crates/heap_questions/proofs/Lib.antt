@@ -7,6 +7,7 @@ pub mod Passing
 pub mod Looking
 pub mod OtherRegisters
 pub mod Halving
+pub mod ToldNodes
 pub mod Reaching
 pub mod CutPaths
 pub mod Retained

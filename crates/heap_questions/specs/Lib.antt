@@ -28,3 +28,4 @@ pub mod RegionSummaries
 pub mod PastTrails
 pub mod Differences
 pub mod FirstPlaces
+pub mod Hints

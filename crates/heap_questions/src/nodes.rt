@@ -1,9 +1,10 @@
 //! The objects of a view with their places, and how one is found by its id.
-ghost use Rattle.std.specs.Prelude.{◌≡◌, ◌<◌, ◌≤◌, ◌^◌, ◌++◌, length, map, Some, IsTrue, IfOk, IfErr, OnOk, slice_get};
+ghost use Rattle.std.specs.Prelude.{◌≡◌, ◌<◌, ◌≤◌, ◌+◌, ◌*◌, ◌^◌, ◌++◌, List, length, map, Some, IsTrue, IfSome, IfOk, IfErr, OnOk, slice_get};
 ghost use Rattle.heap_class.specs.declared.Refusal.TheVariants.{NoMemory};
 ghost use Rattle.hprof_text.specs.Image.{object_limit};
 ghost use Rattle.heap_questions.specs.declared.nodes.Node.{Node};
 ghost use Rattle.heap_questions.specs.Search.{AreSmallerBefore, AreFrom, AreNodes, AreRising, hint_limit, node_with};
+ghost use Rattle.heap_questions.specs.Hints.{AreTold, AreToldTo, IsToldAt, id_after, id_steps, node_told, node_told_by};
 
 use heap_class::{ObjRef, Refusal};
 use hprof_text::View;
@@ -34,26 +35,29 @@ struct Hint {
     bits: u64,
 }
 
-// The objects of a view with their places, in order. If ids rise, as those of a heap do, hints tell where an id stands.
-// Contracts see the list.
+// The objects of a view with their places, in order. If ids rise, as those of a heap do, hints tell where an id stands, and `told`
+// says that what they tell needs no look at the nodes. Contracts see the list.
 #[derive(Drop)]
 pub(crate) struct NodeList {
     nodes: Vec<Node>,
     rising: bool,
     first: u64,
     hints: Vec<Hint>,
+    told: bool,
 }
 
 impl Model for NodeList {
     ghost use Rattle.std.specs.Prelude.{List, IsTrue};
     ghost use Rattle.heap_questions.specs.declared.nodes.Node.{Node};
     ghost use Rattle.heap_questions.specs.Search.{AreRising};
+    ghost use Rattle.heap_questions.specs.Hints.{AreTold};
 
     ghost Value = { List Node };
 
     ghost view = { λ n. n.nodes.items };
 
-    ghost invariant = { λ n. IsTrue n.rising → AreRising n.nodes.items };
+    ghost invariant = { λ n. (IsTrue n.rising → AreRising n.nodes.items)
+        × (IsTrue n.told → AreTold n.first n.hints.items n.nodes.items) };
 }
 
 // Returns the objects of a view, in order. Fails with NoMemory.
@@ -88,36 +92,19 @@ fn are_rising(nodes: &[Node]) -> bool
     true
 }
 
-// Finds the first node with this id. If ids rise, the guess may tell where it stands.
-fn node_with(nodes: &[Node], rising: bool, guess: usize, id: u64) -> Option<usize>
+// Finds the first node with this id: by halves if ids rise.
+fn node_with(nodes: &[Node], rising: bool, id: u64) -> Option<usize>
     requires { IsTrue rising → AreRising nodes.now }
     ensures { result ≡ node_with nodes.now id }
 {
     if !rising {
         return nodes.iter().position(|node| node.id == id);
     }
-    let first = first_from(nodes, guess, id);
+    let first = first_by_halves(nodes, id);
     if first < nodes.len() && nodes[first].id == id {
         Some(first)
     } else {
         None
-    }
-}
-
-// Finds the first node whose id is at least this, of nodes whose ids rise: at the guess if it is right, and else by halves.
-fn first_from(nodes: &[Node], guess: usize, id: u64) -> usize
-    requires { AreRising nodes.now }
-    ensures within { result ≤ length nodes.now }
-    ensures below { AreSmallerBefore nodes.now result id }
-    ensures above { AreFrom nodes.now result id }
-{
-    if guess > nodes.len() {
-        return first_by_halves(nodes, id);
-    }
-    if ends_below(nodes, guess, id) && begins_from(nodes, guess, id) {
-        guess
-    } else {
-        first_by_halves(nodes, id)
     }
 }
 
@@ -131,30 +118,6 @@ fn first_by_halves(nodes: &[Node], id: u64) -> usize
     nodes.partition_point(|node| node.id < id)
 }
 
-// Tells whether the nodes before this place have smaller ids, of nodes whose ids rise.
-fn ends_below(nodes: &[Node], place: usize, id: u64) -> bool
-    requires rising { AreRising nodes.now }
-    requires within { place ≤ length nodes.now }
-    ensures { IsTrue result → AreSmallerBefore nodes.now place id }
-{
-    if place == 0 {
-        return true;
-    }
-    nodes[place - 1].id < id
-}
-
-// Tells whether the nodes from this place on have no smaller ids, of nodes whose ids rise.
-fn begins_from(nodes: &[Node], place: usize, id: u64) -> bool
-    requires rising { AreRising nodes.now }
-    requires within { place ≤ length nodes.now }
-    ensures { IsTrue result → AreFrom nodes.now place id }
-{
-    if place == nodes.len() {
-        return true;
-    }
-    id <= nodes[place].id
-}
-
 // Returns the id of the first node, or 0 if there is none.
 fn first_id(nodes: &[Node]) -> u64 {
     match nodes.first() {
@@ -163,35 +126,127 @@ fn first_id(nodes: &[Node]) -> u64 {
     }
 }
 
-// Returns the node that the hints tell for an id that is `steps` steps from the first.
-fn hint_at(hints: &[Hint], steps: u64) -> usize {
+// Returns the node that the hints tell for an id that is `steps` steps from the first, if they tell one.
+fn node_told(hints: &[Hint], steps: u64) -> Option<usize>
+    ensures { result ≡ node_told hints.now steps }
+{
     let place = steps / HINT_STEPS;
     if place < hints.len() as u64 {
-        let hint = hints[place as usize];
-        hint.before as usize + nodes_below(hint, (steps % HINT_STEPS) as u32)
+        node_told_by(hints[place as usize], (steps % HINT_STEPS) as u32)
     } else {
-        0
+        None
     }
 }
 
-// Returns how many nodes stand at the first `steps` steps of a hint.
-fn nodes_below(hint: Hint, steps: u32) -> usize
-    requires { steps < 64 }
-    ensures { result ≤ 64 }
+// Returns the node that a hint tells for one of its steps, if it tells one.
+fn node_told_by(hint: Hint, step: u32) -> Option<usize>
+    requires { step < 64 }
+    ensures { result ≡ node_told_by hint step }
 {
-    let below = (1u64 << steps) - 1;
-    (hint.bits & below).count_ones() as usize
+    if (hint.bits >> step) % 2 == 0 {
+        return None;
+    }
+    let below = hint.bits & ((1u64 << step) - 1);
+    Some(hint.before as usize + below.count_ones() as usize)
+}
+
+// Returns the id that is `steps` steps from the first.
+fn id_after(first: u64, steps: u64) -> u64
+    ensures { result ≡ id_after first steps }
+{
+    first.wrapping_add(steps.wrapping_mul(ID_STEP))
+}
+
+// Finds the node with this id by hints alone.
+fn told_with(hints: &[Hint], first: u64, id: u64) -> Option<usize>
+    ensures { (ns : List Node) → AreTold first hints.now ns → result ≡ node_with ns id }
+{
+    let steps = id_steps(first, id);
+    if id_after(first, steps) == id {
+        node_told(hints, steps)
+    } else {
+        None
+    }
+}
+
+// Tells whether the hints tell where each node stands, and nothing else.
+fn are_told(nodes: &[Node], first: u64, hints: &[Hint]) -> bool
+    requires { length hints.now ≤ hint_limit }
+    ensures { IsTrue result → AreTold first hints.now nodes.now }
+{
+    let mut node = 0;
+    for place in 0..hints.len() {
+        match node_behind(nodes, first, hints, place, hints[place], node) {
+            Some(next) => node = next,
+            None => return false,
+        }
+    }
+    node == nodes.len()
+}
+
+// Returns the node behind those of the hint at this place, which begin at `from`, if it tells where they stand, and nothing else.
+fn node_behind(
+    nodes: &[Node],
+    first: u64,
+    hints: &[Hint],
+    place: usize,
+    hint: Hint,
+    from: usize,
+) -> Option<usize>
+    requires few { place < hint_limit }
+    requires there { slice_get hints.now place ≡ Some hint }
+    requires within { from ≤ length nodes.now }
+    requires told { AreToldTo first hints.now nodes.now (place * 64) from }
+    ensures within { IfSome result (λ n. n ≤ length nodes.now) }
+    ensures told { IfSome result (AreToldTo first hints.now nodes.now ((place + 1) * 64)) }
+{
+    let mut node = from;
+    let mut step = 0;
+    let mut rest = hint.bits;
+    while rest != 0 {
+        let zeros = rest.trailing_zeros();
+        let steps = place as u64 * HINT_STEPS + (step + zeros) as u64;
+        if !is_told_at(nodes, first, hints, steps, node) {
+            return None;
+        }
+        rest = rest >> zeros >> 1;
+        step += zeros + 1;
+        node += 1;
+    }
+    Some(node)
+}
+
+// Tells whether the hints tell this node for an id this many steps from the first, and it has that id.
+fn is_told_at(nodes: &[Node], first: u64, hints: &[Hint], steps: u64, node: usize) -> bool
+    ensures { IsTrue result → IsToldAt first hints.now nodes.now steps node }
+{
+    if node >= nodes.len() {
+        return false;
+    }
+    let id = nodes[node].id;
+    id_steps(first, id) == steps && id_after(first, steps) == id && is_told(hints, steps, node)
+}
+
+// Tells whether the hints tell this node for an id this many steps from the first.
+fn is_told(hints: &[Hint], steps: u64, node: usize) -> bool
+    ensures { IsTrue result → node_told hints.now steps ≡ Some node }
+{
+    match node_told(hints, steps) {
+        Some(found) => found == node,
+        None => false,
+    }
 }
 
 // Returns the hints of nodes of which the first has this id. Fails with NoMemory.
 fn hints_of(alloc: Global, nodes: &[Node], first: u64) -> Result<Vec<Hint>, Refusal>
     requires { length nodes.now ≤ object_limit }
-    ensures { IfErr result (λ e. e ≡ NoMemory) }
+    ensures few { IfOk result (λ hs. length hs.items ≤ hint_limit) }
+    ensures refused { IfErr result (λ e. e ≡ NoMemory) }
 {
     let none = Hint { before: 0, bits: 0 };
     let mut hints = vec![in alloc; none; hint_count(nodes)]?;
     for node in 0..nodes.len() {
-        let steps = steps_between(first, nodes[node].id);
+        let steps = id_steps(first, nodes[node].id);
         let place = steps / HINT_STEPS;
         if place < hints.len() as u64 {
             let hint = hints[place as usize];
@@ -208,7 +263,7 @@ fn hint_count(nodes: &[Node]) -> usize
 {
     match (nodes.first(), nodes.last()) {
         (Some(first), Some(last)) => {
-            let steps = steps_between(first.id, last.id).min(HEAP_WORDS);
+            let steps = id_steps(first.id, last.id).min(HEAP_WORDS);
             (steps / HINT_STEPS) as usize + 1
         }
         _ => 0,
@@ -216,8 +271,8 @@ fn hint_count(nodes: &[Node]) -> usize
 }
 
 // Returns the number of steps from an id to another, which may be any number if the other is smaller.
-fn steps_between(first: u64, id: u64) -> u64
-    ensures { result ≤ 2 ^ 61 }
+fn id_steps(first: u64, id: u64) -> u64
+    ensures { result ≡ id_steps first id }
 {
     id.wrapping_sub(first) / ID_STEP
 }
@@ -267,11 +322,13 @@ impl NodeList {
         let rising = are_rising(nodes.as_slice());
         let first = first_id(nodes.as_slice());
         let hints = hints_of(alloc, nodes.as_slice(), first)?;
+        let told = are_told(nodes.as_slice(), first, hints.as_slice());
         Ok(NodeList {
             nodes,
             rising,
             first,
             hints,
+            told,
         })
     }
 
@@ -286,8 +343,11 @@ impl NodeList {
     pub(crate) fn find(&self, id: u64) -> Option<usize>
         ensures { result ≡ node_with self.now id }
     {
-        let guess = hint_at(self.hints.as_slice(), steps_between(self.first, id));
-        node_with(self.nodes.as_slice(), self.rising, guess, id)
+        if self.told {
+            told_with(self.hints.as_slice(), self.first, id)
+        } else {
+            node_with(self.nodes.as_slice(), self.rising, id)
+        }
     }
 
     // Returns the place of a node.

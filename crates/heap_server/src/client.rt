@@ -1,5 +1,5 @@
 //! The client of a session: what it sends, and what comes back.
-ghost use Rattle.std.specs.Prelude.{◌≡◌, IfSome, IfNone};
+ghost use Rattle.std.specs.Prelude.{◌≡◌, None, IfSome, IfNone};
 ghost use Rattle.heap_server.specs.declared.client.Asked.TheVariants.{NoMemory};
 ghost use Rattle.heap_server.specs.ClientEndings.{AsksServer, Receives, Sends, SendsInput, SendsWord, asked_end};
 
@@ -82,9 +82,7 @@ where
     ensures unsent { IfNone result.sender (result.asked ≡ NoMemory) }
 {
     let Some((own, theirs)) = marks(alloc) else {
-        let asked = Asked::NoMemory;
-        let sender = None;
-        return Client { asked, sender };
+        return unsent();
     };
     let word = &secret;
     let promise = SendsFrom {
@@ -95,9 +93,7 @@ where
     let (handle, first) = (*rt, *word);
     let send = move || send_from(&handle, first, input, outlet, &theirs);
     let Ok(sender) = thread::spawn_with(rt, promise, send) else {
-        let asked = Asked::NoMemory;
-        let sender = None;
-        return Client { asked, sender };
+        return unsent();
     };
     let asked = receive(rt, socket, output, &own);
     let sender = Some(sender);
@@ -109,6 +105,16 @@ fn marks(alloc: Global) -> Option<(Arc<AtomicBool>, Arc<AtomicBool>)> {
     let own = Arc::new(alloc, AtomicBool::new(false)).ok()?;
     let theirs = Arc::try_clone(&own).ok()?;
     Some((own, theirs))
+}
+
+// Returns how a client ended that had no memory or no thread.
+fn unsent<I: Inlet, T: Outlet>() -> Client<I, T>
+    ensures sender { result.sender ≡ None }
+    ensures asked { result.asked ≡ NoMemory }
+{
+    let asked = Asked::NoMemory;
+    let sender = None;
+    Client { asked, sender }
 }
 
 // Sends the line of a word and all input to an outlet, as `send_all` does.

@@ -52,7 +52,7 @@ pub fn find<'a>(alloc: Global, walk: Walk<'a>) -> Result<Found<'a>, AllocError>
     Ok(found)
 }
 
-// Does the same, and may leave room for more objects.
+// Walks over what is left of a dump, to its end or the first fault. The table of objects may have room for more.
 fn find_loosely<'a>(alloc: Global, walk: Walk<'a>) -> Result<Found<'a>, AllocError>
     requires { bytes_left (left walk) < 2 ^ 64 }
     ensures { IfOk result (Finds (left walk.entry)) }

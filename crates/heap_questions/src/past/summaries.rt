@@ -137,35 +137,6 @@ fn before_new(fresh: bool, now: Option<RegionSummary>) -> Option<RegionSummary>
     }
 }
 
-// Returns what was told of a region before a sweep took this many dead objects out.
-fn before_sweep(dead: u64, now: Option<RegionSummary>) -> Option<RegionSummary>
-    ensures { result ≡ option_map (with_dead_back dead) now }
-{
-    match now {
-        Some(summary) => Some(RegionSummary {
-            cell_size: summary.cell_size,
-            waits: true,
-            counts: RegionCounts {
-                live: summary.counts.live,
-                dead,
-            },
-        }),
-        None => None,
-    }
-}
-
-// Returns what was told of a region before a sweep took it out whole.
-fn taken_out(storage: &RegionView<'_>) -> RegionSummary
-    requires { 0 < length storage.now.cells }
-    ensures { result ≡ taken_out storage.now }
-{
-    RegionSummary {
-        cell_size: size_of(storage),
-        waits: true,
-        counts: count_region(storage),
-    }
-}
-
 // Changes what is told of each region to what was told before a cycle ended.
 fn undo_finish(all: &mut Vec<Option<RegionSummary>>)
     requires { HaveFew all.old.items }
@@ -192,5 +163,34 @@ fn before_finish(now: Option<RegionSummary>) -> Option<RegionSummary>
             },
         }),
         None => None,
+    }
+}
+
+// Returns what was told of a region before a sweep took this many dead objects out.
+fn before_sweep(dead: u64, now: Option<RegionSummary>) -> Option<RegionSummary>
+    ensures { result ≡ option_map (with_dead_back dead) now }
+{
+    match now {
+        Some(summary) => Some(RegionSummary {
+            cell_size: summary.cell_size,
+            waits: true,
+            counts: RegionCounts {
+                live: summary.counts.live,
+                dead,
+            },
+        }),
+        None => None,
+    }
+}
+
+// Returns what was told of a region before a sweep took it out whole.
+fn taken_out(storage: &RegionView<'_>) -> RegionSummary
+    requires { 0 < length storage.now.cells }
+    ensures { result ≡ taken_out storage.now }
+{
+    RegionSummary {
+        cell_size: size_of(storage),
+        waits: true,
+        counts: count_region(storage),
     }
 }

@@ -1,0 +1,7 @@
+use Rattle.std.proofs.Common.{refl}
+use Rattle.heap_questions.specs.Hints.{id_after}
+use Rattle.heap_questions.proofs.nodes.id_after.Goals as goal
+
+pub returns : goal.returns
+unfolding id_after
+returns c = refl

@@ -145,10 +145,12 @@ fn first_farther(starts: &[Start], distance: u32) -> usize
     ensures within { result ≤ length starts.now }
     ensures place { result ≡ position_or_len (λ b. nat_lt distance b.distance) starts.now }
 {
-    starts
-        .iter()
-        .position(|start| distance < start.distance)
-        .unwrap_or(starts.len())
+    for place in 0..starts.len() {
+        if distance < starts[place].distance {
+            return place;
+        }
+    }
+    starts.len()
 }
 
 // Returns the first start by which none of these paths begins, or None if each has one.
@@ -157,14 +159,24 @@ pub(crate) fn first_unused(starts: &[Start], paths: &[Path]) -> Option<Start>
         (λ b. not (list_any (λ p. starts_by (b.number / slot_span) (b.number % slot_span)
         (route_of p)) paths.now)) starts.now }
 {
-    starts.iter().find(|start| !is_used(start, paths)).copied()
+    for place in 0..starts.len() {
+        let start = starts[place];
+        if !is_used(start, paths) {
+            return Some(start);
+        }
+    }
+    None
 }
 
 // Tells whether one of these paths begins by a start.
-fn is_used(start: &Start, paths: &[Path]) -> bool
+fn is_used(start: Start, paths: &[Path]) -> bool
     ensures { result ≡ list_any
-        (λ p. starts_by (start.now.number / slot_span) (start.now.number % slot_span) (route_of p))
+        (λ p. starts_by (start.number / slot_span) (start.number % slot_span) (route_of p))
         paths.now }
 {
-    is_start_used(paths, (start.number / SLOT_SPAN) as u64, (start.number % SLOT_SPAN) as u64)
+    is_start_used(
+        paths,
+        (start.number / SLOT_SPAN) as u64,
+        (start.number % SLOT_SPAN) as u64,
+    )
 }

@@ -1,0 +1,34 @@
+use Rattle.std.proofs.Common.{◌≡◌, ◌<◌, ◌+◌, ◌*◌, ◌∙◌, List, [], get_or, length, take, refl, sym, ap, subst, arith}
+use Rattle.std.specs.Prelude.{OnOk}
+use Rattle.std.proofs.lemmas.Option.{slice_get_within}
+use Rattle.heap_questions.specs.Distances.{AreNearest, distance_by, with_start}
+use Rattle.heap_questions.specs.Search.{slot_span}
+use Rattle.heap_questions.specs.Starts.{with_starts}
+use Rattle.heap_questions.specs.declared.nearest.Start.{Start}
+use Rattle.heap_questions.proofs.KnownDistances.{known_object, slot_small, start_far, start_here}
+use Rattle.heap_questions.proofs.nearest.add_slot.Goals as goal
+
+pub distance_along-distance-requires-clause-known : goal.distance_along-distance-requires-clause-known
+distance_along-distance-requires-clause-known g c =
+    let by = c.requires.named in
+    known_object (g.V.View.image c.args.view.now) c.classes-classes.result by.0 c.args.object.now c.classes-classes.ensures.limits c.classes-classes.ensures.value by.2
+
+pub returns-then-distance : goal.returns-then-distance
+returns-then-distance g c =
+    let image = g.V.View.image c.args.view.now in
+    let by = c.requires.named in
+    let small = slot_small image by.0 c.args.slot c.args.object.now c.classes-classes.ensures.limits by.2 c.requires.slot in
+    start_far image (g.V.View.places c.args.view.now) c.args.nodes.now c.args.table.now c.classes-classes.result c.args.register c.args.slot c.args.most c.distance_along-distance.result c.args.object.now c.args.starts.now.items
+    c.requires.nodes small by c.classes-classes.ensures.value c.distance_along-distance.ensures c.if-distance.true c.requires.nearest
+
+pub start_number-number-requires-clause-register : goal.start_number-number-requires-clause-register
+start_number-number-requires-clause-register g c =
+    let by = c.requires.named in
+    let within = slice_get_within (g.V.View.image c.args.view.now).registers c.args.register by.0 by.1 in
+    let few = c.classes-classes.ensures.limits.few_registers in
+    omega (arith, within, few)
+
+pub start_number-number-requires-clause-slot : goal.start_number-number-requires-clause-slot
+start_number-number-requires-clause-slot g c =
+    let by = c.requires.named in
+    slot_small (g.V.View.image c.args.view.now) by.0 c.args.slot c.args.object.now c.classes-classes.ensures.limits by.2 c.requires.slot

@@ -1,11 +1,11 @@
 -- The distances of all objects, node by node, and the nearest start, slot by slot.
-use Rattle.std.proofs.Common.{◌≡◌, ◌≢◌, ◌⊎◌, ℕ, ◌+◌, ◌*◌, ◌/◌, ◌%◌, ◌<◌, ◌≤◌, Bool, true, false, List, [], length, get_or, take, Option, Some, None, refl, sym, ap, ◌∙◌, subst, inl, inr, arith}
+use Rattle.std.proofs.Common.{◌≡◌, ◌≢◌, ◌⊎◌, ℕ, ◌+◌, ◌*◌, ◌/◌, ◌%◌, ◌<◌, ◌≤◌, Bool, true, false, List, [], length, get_or, take, Option, Some, None, refl, sym, ap, ◌∙◌, map, subst, inl, inr, arith}
 use Rattle.std.specs.Prelude.{find, min, not, option_and_then, slice_get, slice_index_or}
 use Rattle.std.specs.List.{list_any}
 use Rattle.std.specs.Option.{option_map_or}
 use Rattle.std.proofs.Math.Nat.{min-eq_left, min-eq_right}
 use Rattle.std.proofs.lemmas.Bool.{cases_Bool, cases_lt, true≢false}
-use Rattle.std.proofs.lemmas.List.{get_or_default}
+use Rattle.std.proofs.lemmas.List.{get_or_default, length-map}
 use Rattle.std.proofs.lemmas.Nat.{div-mul-add, mod-mul-add}
 use Rattle.std.proofs.lemmas.Option.{get_or_from_slice_get, none-some, slice_get_within}
 use Rattle.heap_class.specs.declared.ObjRef.{ObjRef}
@@ -15,17 +15,19 @@ use Rattle.hprof_text.specs.Image.{DumpedObject, Image, IsDumpable, IsKnown}
 use Rattle.heap_questions.specs.Differences.{IsKnownIf}
 use Rattle.heap_questions.specs.Distances.{AreDistances, HasNearer, IsFirstNearer, IsFit, IsFitNode, IsLeastOf, IsNamedBy, IsNearestOf, AreNearest, AreNearestFor, IsBefore, IsNearStart, distance_by, distance_of, far, with_start}
 use Rattle.heap_questions.specs.Graph.{HasId, named, object_with, slot_names, slot_refers}
-use Rattle.heap_questions.specs.PathsApart.{Route}
+use Rattle.heap_questions.specs.PathsApart.{Route, route_of}
 use Rattle.heap_questions.specs.Search.{AreNodes, node_with, slot_span}
 use Rattle.heap_questions.specs.Starts.{starts_by, with_starts}
 use Rattle.heap_questions.specs.declared.nearest.Start.{Start}
 use Rattle.heap_questions.specs.declared.nodes.Node.{Node}
 use Rattle.heap_questions.specs.declared.paths.Hop.{Hop}
+use Rattle.heap_questions.specs.declared.paths.Path.{Path}
 use Rattle.heap_questions.proofs.DifferentObjects.{found_object_is_known}
 use Rattle.heap_questions.proofs.LongerLists.{got_same}
 use Rattle.heap_questions.proofs.Looking.{named_is, slot_is, slot_is_none, slot_within}
 use Rattle.heap_questions.proofs.NodePlaces.{node_of_object, node_within, object_found}
 use Rattle.heap_questions.proofs.NearestStarts.{as_many_paths, first_passes, is_used, nearest_more, nearest_past, none_passes, one_of_all}
+use Rattle.heap_questions.proofs.PathStarts.{any_route}
 use Rattle.heap_questions.proofs.Starting.{IsStart, no_start, object_at, place_with, start_found, start_is, start_word, starts_many}
 use Rattle.heap_questions.proofs.TracedPaths.{named_object}
 
@@ -277,7 +279,7 @@ start_among image places nodes table earlier others q z are e near free =
     let word = start_word image others r s z small (slice_get_within image.registers r is.first is.names) (start_is image others r s is.first z free is.names is.leads) in
     (ap (slice_get (with_starts image others).registers) (sym at) ∙ word, is.free)
 
-pub next_start : (image : Image) (places : List ObjRef) (nodes : List Node) (table : List ℕ) (earlier : List Route) (starts : List Start) (r : Option Start) → AreNodes image places nodes → AreNearestFor (distance_by nodes table) (first_starts image) (length earlier) starts → r ≡ find (λ b. not (is_used earlier b)) starts
+next_start : (image : Image) (places : List ObjRef) (nodes : List Node) (table : List ℕ) (earlier : List Route) (starts : List Start) (r : Option Start) → AreNodes image places nodes → AreNearestFor (distance_by nodes table) (first_starts image) (length earlier) starts → r ≡ find (λ b. not (is_used earlier b)) starts
     → IsNearestOf (distance_by nodes table) (with_starts image earlier).registers (length (with_starts image earlier).registers) r
 next_start image places nodes table earlier starts r are nearest is = go r (sym is)
   where
@@ -334,15 +336,22 @@ next_start image places nodes table earlier starts r are nearest is = go r (sym 
               elim (among.rest x c.0) [
                 | inl stands ↦ elim (f.2 x stands (ap not c.1)) [
                   | inl same ↦ inr (ap (λ (y : Start). y.distance) same, let at : b.number ≡ q = ap (λ (y : Start). y.number) same in omega (arith, at))
-                  | inr before ↦ no_later before
+                  | inr before ↦ no_later q z before
                 ]
-                | inr full ↦ no_later (one_of_all (λ y. IsBefore y x) b starts full.1 f.0)
+                | inr full ↦ no_later q z (one_of_all (λ y. IsBefore y x) b starts full.1 f.0)
               ],
         )
       where
-        no_later : {q z : ℕ} → IsBefore b (record { number = q; id = z; distance = d z }) → (b.distance < d z) ⊎ ((b.distance ≡ d z) × (b.number ≤ q))
-        no_later (inl l) = inl l
-        no_later (inr l) = inr (l.0, let less = l.1 in omega (arith, less))
+        no_later : (q z : ℕ) → IsBefore b (record { number = q; id = z; distance = d z }) → (b.distance < d z) ⊎ ((b.distance ≡ d z) × (b.number ≤ q))
+        no_later q z (inl l) = inl l
+        no_later q z (inr l) = inr (l.0, let less = l.1 in omega (arith, less))
+
+-- the first start by which none of these paths begins
+pub next_of_paths : (image : Image) (places : List ObjRef) (nodes : List Node) (table : List ℕ) (paths : List Path) (starts : List Start) (r : Option Start) → AreNodes image places nodes → AreNearestFor (distance_by nodes table) (first_starts image) (length paths) starts
+    → r ≡ find (λ b. not (list_any (λ p. starts_by (b.number / slot_span) (b.number % slot_span) (route_of p)) paths)) starts → IsNearestOf (distance_by nodes table) (with_starts image (map route_of paths)).registers (length (with_starts image (map route_of paths)).registers) r
+next_of_paths image places nodes table paths starts r are nearest is =
+    next_start image places nodes table (map route_of paths) starts r are (subst (λ k. AreNearestFor (distance_by nodes table) (first_starts image) k starts) (sym (length-map paths route_of)) nearest)
+    (is ∙ (λ i. find (λ (b : Start). not (any_route (starts_by (b.number / slot_span) (b.number % slot_span)) paths i)) starts))
 
 pub no_start_of_none : (image : Image) (earlier : List Route) (r x s y : ℕ) → slice_get image.registers r ≡ Some x → object_with image x ≡ None → ¬ IsStart image earlier r s y
 no_start_of_none image earlier r x s y names none is =

@@ -1,6 +1,6 @@
 -- The nearest starts in order, and the first of them that isn't used.
 use Rattle.std.proofs.Common.{◌≡◌, ◌≢◌, ◌⊎◌, ℕ, suc, zero, ◌+◌, ◌*◌, ◌/◌, ◌%◌, ◌<◌, ◌≤◌, Bool, true, false, cond, eqb, List, [], ◌∷◌, length, ltb-true, ltb-false, map, take, Option, Some, None, refl, sym, ap, ◌∙◌, subst, inl, inr, arith}
-use Rattle.std.specs.Prelude.{◌==◌, ◌||◌, find, nat_lt, not, option_map_or, slice_get, unwrap_or}
+use Rattle.std.specs.Prelude.{◌==◌, ◌||◌, find, nat_lt, not, slice_get, unwrap_or}
 use Rattle.std.specs.List.{AllByRecursion, IsDistinct, insert, list_any, position_or_len}
 use Rattle.std.proofs.lemmas.Bool.{cases_Bool, cases_lt, eqb-true, eq-eqb, ne_eqb, true≢false}
 use Rattle.std.proofs.lemmas.List.{length-map, length-take-le}
@@ -43,9 +43,12 @@ put_later b c cs f = ap (λ x. cond x (b ∷ c ∷ cs) (c ∷ with_start b cs)) 
 pub put_at_place : (b : Start) (bs : List Start) → insert bs (position_or_len (λ (c : Start). nat_lt b.distance c.distance) bs) b ≡ with_start b bs
 put_at_place b [] = refl
 put_at_place b (c ∷ cs) = elim (cases_Bool (nat_lt b.distance c.distance)) [
-  | inl t ↦ ap (λ x. insert (c ∷ cs) (cond x 0 (suc (position_or_len (λ (c : Start). nat_lt b.distance c.distance) cs))) b) t ∙ sym (put_here b c cs t)
-  | inr f ↦ ap (λ x. insert (c ∷ cs) (cond x 0 (suc (position_or_len (λ (c : Start). nat_lt b.distance c.distance) cs))) b) f ∙ ap (λ (l : List Start). c ∷ l) (put_at_place b cs) ∙ sym (put_later b c cs f)
+  | inl t ↦ ap (λ x. insert (c ∷ cs) (cond (not x) (1 + place) 0) b) t ∙ sym (put_here b c cs t)
+  | inr f ↦ ap (λ x. insert (c ∷ cs) (cond (not x) (1 + place) 0) b) f ∙ ap (λ k. insert (c ∷ cs) k b) (let e : 1 + place ≡ suc place = omega arith in e) ∙ ap (λ (l : List Start). c ∷ l) (put_at_place b cs) ∙ sym (put_later b c cs f)
 ]
+  where
+    place : ℕ
+    place = position_or_len (λ (c : Start). nat_lt b.distance c.distance) cs
 
 all_put : (P : Start → Type 0) (b : Start) (bs : List Start) → P b → AllByRecursion P bs → AllByRecursion P (with_start b bs)
 all_put P b [] p a = (p, tt)
@@ -63,14 +66,14 @@ put_stands b (c ∷ cs) = elim (cases_Bool (nat_lt b.distance c.distance)) [
 
 others_stand : (b a : Start) (bs : List Start) → StandsIn a bs → StandsIn a (with_start b bs)
 others_stand b a [] s = absurd s
-others_stand b a (c ∷ cs) s = elim (cases_Bool (nat_lt b.distance c.distance)) [
-  | inl t ↦ subst (StandsIn a) (sym (put_here b c cs t)) (inr s)
-  | inr f ↦ subst (StandsIn a) (sym (put_later b c cs f)) (later s)
+others_stand b a (c ∷ cs) (inl e) = elim (cases_Bool (nat_lt b.distance c.distance)) [
+  | inl t ↦ subst (StandsIn a) (sym (put_here b c cs t)) (inr (inl e))
+  | inr f ↦ subst (StandsIn a) (sym (put_later b c cs f)) (inl e)
 ]
-  where
-    later : StandsIn a (c ∷ cs) → StandsIn a (c ∷ with_start b cs)
-    later (inl e) = inl e
-    later (inr r) = inr (others_stand b a cs r)
+others_stand b a (c ∷ cs) (inr r) = elim (cases_Bool (nat_lt b.distance c.distance)) [
+  | inl t ↦ subst (StandsIn a) (sym (put_here b c cs t)) (inr (inr r))
+  | inr f ↦ subst (StandsIn a) (sym (put_later b c cs f)) (inr (others_stand b a cs r))
+]
 
 nearer_than : (b c a : Start) → b.distance < c.distance → IsBefore c a → IsBefore b a
 nearer_than b c a l (inl m) = inl (omega (arith, l, m))
@@ -105,7 +108,7 @@ stands_first zero b (c ∷ cs) o s = inr (refl, tt)
 stands_first (suc n) b (c ∷ cs) o (inl e) = inl (inl e)
 stands_first (suc n) b (c ∷ cs) o (inr s) = elim (stands_first n b cs o.1 s) [
   | inl t ↦ inl (inr t)
-  | inr r ↦ inr (ap suc r.0, one_of_all (IsBefore c) b cs o.0 s, r.1)
+  | inr r ↦ inr (ap suc r.0, (one_of_all (IsBefore c) b cs o.0 s, r.1))
 ]
 
 -- those that come before a stay before it, if one more is put among them and the last is taken away
@@ -115,11 +118,11 @@ before_stays a b (c ∷ cs) h = elim (cases_Bool (nat_lt b.distance c.distance))
   | inl t ↦
       let l : b.distance < c.distance = ltb-true b.distance c.distance t in
       subst (λ (l : List Start). (length (take (length (c ∷ cs)) l) ≡ length (c ∷ cs)) × AllByRecursion (λ c. IsBefore c a) (take (length (c ∷ cs)) l)) (sym (put_here b c cs t))
-      (ap suc (length-take-le (length cs) (c ∷ cs) (omega arith)), nearer_than b c a l h.0, all_first (λ c. IsBefore c a) (length cs) (c ∷ cs) h)
+      (ap suc (length-take-le (length cs) (c ∷ cs) (omega arith)), (nearer_than b c a l h.0, all_first (λ c. IsBefore c a) (length cs) (c ∷ cs) h))
   | inr f ↦
       let rest = before_stays a b cs h.1 in
       subst (λ (l : List Start). (length (take (length (c ∷ cs)) l) ≡ length (c ∷ cs)) × AllByRecursion (λ c. IsBefore c a) (take (length (c ∷ cs)) l)) (sym (put_later b c cs f))
-      (ap suc rest.0, h.0, rest.1)
+      (ap suc rest.0, (h.0, rest.1))
 ]
 
 -- ---- register by register
@@ -192,14 +195,14 @@ first_passes test b (x ∷ xs) o e = elim (cases_Bool (test x)) [
 
 pub none_passes : (test : Start → Bool) (c : Start) (bs : List Start) → find test bs ≡ None → StandsIn c bs → test c ≡ false
 none_passes test c [] e s = absurd s
-none_passes test c (x ∷ xs) e s = elim (cases_Bool (test x)) [
+none_passes test c (x ∷ xs) e (inl s) = elim (cases_Bool (test x)) [
   | inl t ↦ absurd (none-some x (sym e ∙ ap (λ y. cond y (Some x) (find test xs)) t))
-  | inr f ↦ go f s
+  | inr f ↦ ap test (sym s) ∙ f
 ]
-  where
-    go : test x ≡ false → StandsIn c (x ∷ xs) → test c ≡ false
-    go f (inl s) = ap test (sym s) ∙ f
-    go f (inr s) = none_passes test c xs (sym (ap (λ y. cond y (Some x) (find test xs)) f) ∙ e) s
+none_passes test c (x ∷ xs) e (inr s) = elim (cases_Bool (test x)) [
+  | inl t ↦ absurd (none-some x (sym e ∙ ap (λ y. cond y (Some x) (find test xs)) t))
+  | inr f ↦ none_passes test c xs (sym (ap (λ y. cond y (Some x) (find test xs)) f) ∙ e) s
+]
 
 -- ---- if each is used, there are as many paths
 

@@ -5,7 +5,7 @@ use Rattle.std.proofs.lemmas.Bool.{cases_eq, cases_lt}
 use Rattle.std.proofs.lemmas.List.{append-nil}
 use Rattle.std.proofs.lemmas.Option.{none-some, same_Some, slice_get_within}
 use Rattle.hprof_text.specs.Image.{DumpedObject, Image}
-use Rattle.heap_questions.specs.Distances.{AreDistances, GoesOnTo, HasNearer, IsFirstNearer, IsFirstWay, IsNearestOf, far, least_before}
+use Rattle.heap_questions.specs.Distances.{AreDistances, GoesOnTo, HasNearer, IsFirstNearer, IsFirstWay, IsNearestOf, far}
 use Rattle.heap_questions.specs.Graph.{AreAtMost, HasId, IsFirstPath, IsPathTo, IsShortest, IsUnreached, followed, named}
 use Rattle.heap_questions.specs.Hops.{slots_of}
 use Rattle.heap_questions.specs.Search.{with_registers}

@@ -1,7 +1,7 @@
 use Rattle.std.proofs.Common.{◌≡◌, ◌<◌, ◌+◌, ◌*◌, ◌∙◌, List, [], get_or, length, take, refl, sym, ap, subst, arith}
-use Rattle.std.specs.Prelude.{OnOk}
+use Rattle.std.proofs.lemmas.Result.{on_ok_weaker}
 use Rattle.std.proofs.lemmas.Option.{slice_get_within}
-use Rattle.heap_questions.specs.Distances.{AreNearest, distance_by, with_start}
+use Rattle.heap_questions.specs.Distances.{AreNearest, distance_by, far}
 use Rattle.heap_questions.specs.Search.{slot_span}
 use Rattle.heap_questions.specs.Starts.{with_starts}
 use Rattle.heap_questions.specs.declared.nearest.Start.{Start}
@@ -32,3 +32,20 @@ pub start_number-number-requires-clause-slot : goal.start_number-number-requires
 start_number-number-requires-clause-slot g c =
     let by = c.requires.named in
     slot_small (g.V.View.image c.args.view.now) by.0 c.args.slot c.args.object.now c.classes-classes.ensures.limits by.2 c.requires.slot
+
+pub returns : goal.returns
+returns g c =
+    let image = g.V.View.image c.args.view.now in
+    let d = distance_by c.args.nodes.now c.args.table.now in
+    let by = c.requires.named in
+    let o = c.args.object.now in
+    let r = c.args.register in
+    let s = c.args.slot in
+    let distance = c.distance_along-distance.result in
+    let old = c.args.starts.now.items in
+    let small = slot_small image by.0 s o c.classes-classes.ensures.limits by.2 c.requires.slot in
+    let less : distance < far = omega (arith, c.if-distance.false, c.distance_along-distance.type_inv) in
+    let new : Start = record { number = c.start_number-number.result; id = get_or c.words.result.now s 0; distance = distance } in
+    let starts = start_here image c.args.nodes.now c.args.table.now c.classes-classes.result r s c.args.most distance o old new small c.requires.slot by c.classes-classes.ensures.value c.distance_along-distance.ensures
+        less c.start_number-number.ensures (ap (λ ws. get_or ws s 0) c.words.ensures) refl c.requires.nearest in
+    on_ok_weaker c.place.result (λ e. subst (AreNearest d (with_starts image []).registers (r * slot_span + s + 1) c.args.most) (sym e) starts) c.place.ensures

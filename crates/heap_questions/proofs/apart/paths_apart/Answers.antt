@@ -15,7 +15,7 @@ next_path-requires-clause-near g c =
     let d = distance_by c.in_ok-nodes.nodes c.as_slice-known.result.now in
     let registers = (with_starts (g.V.View.image c.args.view.now) []).registers in
     let few : length c.as_slice.result.now < c.args.most = omega (arith, ap length c.as_slice.ensures.value, c.loop-known-test.true) in
-    (c.args.most, (few, subst (AreNearest d registers (length registers) c.args.most) (sym c.as_slice-near.ensures.value) c.in_ok-starts.ensures))
+    (c.args.most, few, subst (AreNearest d registers (length registers) c.args.most) (sym c.as_slice-near.ensures.value) c.in_ok-starts.ensures)
 
 pub loop-known-preserved : goal.loop-known-preserved
 loop-known-preserved g c =

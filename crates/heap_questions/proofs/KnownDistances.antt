@@ -324,8 +324,7 @@ next_start image places nodes table earlier starts r are nearest is = go r (sym 
         let f = first_passes test b starts among.ordered e in
         let near = one_of_all (IsNearStart d (first_starts image) (length (first_starts image))) b starts among.each f.0 in
         let free : is_used earlier b ≡ false = elim (cases_Bool (is_used earlier b)) [ inl t ↦ absurd (true≢false (sym f.1 ∙ ap not t)) | inr n ↦ n ] in
-        let a = start_among image places nodes table [] earlier b.number b.id are near.names (let told = near.told in let less = near.near in omega (arith, told, less)) free in
-        (
+        let a = start_among image places nodes table [] earlier b.number b.id are near.names (let told = near.told in let less = near.near in omega (arith, told, less)) free in (
           slice_get_within others b.number b.id a.0,
           a.0,
           near.told,

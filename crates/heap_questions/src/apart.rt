@@ -52,7 +52,16 @@ pub fn paths_apart<V: View>(
     let near = starts.as_slice();
     let mut paths = Vec::new(alloc);
     while paths.len() < most {
-        match next_path(alloc, view, &nodes, known, exact, near, id, paths.as_slice())? {
+        match next_path(
+            alloc,
+            view,
+            &nodes,
+            known,
+            exact,
+            near,
+            id,
+            paths.as_slice(),
+        )? {
             Some(path) => paths.push(path)?,
             None => return Ok(paths),
         }

@@ -127,7 +127,15 @@ fn add_slot<V: View>(
     }
     let number = start_number(register, slot);
     let id = object.words()[slot];
-    place(starts, most, Start { number, id, distance })
+    place(
+        starts,
+        most,
+        Start {
+            number,
+            id,
+            distance,
+        },
+    )
 }
 
 // Puts a start before the first that is farther, and keeps `most`. Fails if an allocation fails.

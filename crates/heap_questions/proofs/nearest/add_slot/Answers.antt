@@ -47,5 +47,5 @@ returns g c =
     let less : distance < far = omega (arith, c.if-distance.false, c.distance_along-distance.type_inv) in
     let new : Start = record { number = c.start_number-number.result; id = get_or c.words.result.now s 0; distance = distance } in
     let starts = start_here image c.args.nodes.now c.args.table.now c.classes-classes.result r s c.args.most distance o old new small c.requires.slot by c.classes-classes.ensures.value c.distance_along-distance.ensures
-        less c.start_number-number.ensures (ap (λ ws. get_or ws s 0) c.words.ensures) refl c.requires.nearest in
+    less c.start_number-number.ensures (ap (λ ws. get_or ws s 0) c.words.ensures) refl c.requires.nearest in
     on_ok_weaker c.place.result (λ e. subst (AreNearest d (with_starts image []).registers (r * slot_span + s + 1) c.args.most) (sym e) starts) c.place.ensures

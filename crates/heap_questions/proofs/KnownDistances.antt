@@ -13,7 +13,7 @@ use Rattle.heap_class.specs.Classes.{Class}
 use Rattle.heap_class.specs.Limits.{large_array_limit}
 use Rattle.hprof_text.specs.Image.{DumpedObject, Image, IsDumpable, IsKnown}
 use Rattle.heap_questions.specs.Differences.{IsKnownIf}
-use Rattle.heap_questions.specs.Distances.{AreDistances, HasNearer, IsFirstNearer, IsFit, IsFitNode, IsLeastOf, IsNamedBy, IsNearestOf, AreNearest, AreNearestFor, IsBefore, IsNearStart, distance_by, distance_of, far, with_start}
+use Rattle.heap_questions.specs.Distances.{AreDistances, HasNearer, IsFirstNearer, IsFit, IsFitNode, IsLeastOf, IsNamedBy, IsNearestOf, AreNearest, AreNearestFor, IsNearerStart, IsNearStart, distance_by, distance_of, far, with_start}
 use Rattle.heap_questions.specs.Graph.{HasId, named, object_with, slot_names, slot_refers}
 use Rattle.heap_questions.specs.PathsApart.{Route, route_of}
 use Rattle.heap_questions.specs.Search.{AreNodes, node_with, slot_span}
@@ -337,11 +337,11 @@ next_start image places nodes table earlier starts r are nearest is = go r (sym 
                   | inl same ↦ inr (ap (λ (y : Start). y.distance) same, let at : b.number ≡ q = ap (λ (y : Start). y.number) same in omega (arith, at))
                   | inr before ↦ no_later q z before
                 ]
-                | inr full ↦ no_later q z (one_of_all (λ y. IsBefore y x) b starts full.1 f.0)
+                | inr full ↦ no_later q z (one_of_all (λ y. IsNearerStart y x) b starts full.1 f.0)
               ],
         )
       where
-        no_later : (q z : ℕ) → IsBefore b (record { number = q; id = z; distance = d z }) → (b.distance < d z) ⊎ ((b.distance ≡ d z) × (b.number ≤ q))
+        no_later : (q z : ℕ) → IsNearerStart b (record { number = q; id = z; distance = d z }) → (b.distance < d z) ⊎ ((b.distance ≡ d z) × (b.number ≤ q))
         no_later q z (inl l) = inl l
         no_later q z (inr l) = inr (l.0, let less = l.1 in omega (arith, less))
 

@@ -1,14 +1,17 @@
 -- The nearest starts in order, and the first of them that isn't used.
-use Rattle.std.proofs.Common.{◌≡◌, ◌≢◌, ◌⊎◌, ℕ, suc, zero, ◌+◌, ◌*◌, ◌/◌, ◌%◌, ◌<◌, ◌≤◌, Bool, true, false, cond, eqb, List, [], ◌∷◌, length, ltb-true, ltb-false, map, take, Option, Some, None, refl, sym, ap, ◌∙◌, subst, inl, inr, arith}
+use Rattle.std.proofs.Common.{◌≡◌, ◌≢◌, ◌⊎◌, ℕ, suc, zero, ◌+◌, ◌*◌, ◌/◌, ◌%◌, ◌<◌, ◌≤◌, Bool, true, false, cond, eqb, leb, get_or, List, [], ◌∷◌, length, ltb-true, ltb-false, map, take, Option, Some, None, refl, sym, ap, ◌∙◌, subst, inl, inr, arith}
 use Rattle.std.specs.Prelude.{◌==◌, ◌||◌, find, nat_lt, not, slice_get, unwrap_or}
 use Rattle.std.specs.List.{AllByRecursion, IsDistinct, insert, list_any, position_or_len}
-use Rattle.std.proofs.lemmas.Bool.{cases_Bool, cases_lt, eqb-true, eq-eqb, ne_eqb, true≢false}
+use Rattle.std.specs.List.Sorted.{IsNonDecreasingBy, IsPartitionPoint}
+use Rattle.std.proofs.lemmas.Bool.{cases_Bool, cases_lt, eqb-true, eq-eqb, le-ltb, leb-true, lt-ltb, ne_eqb, true≢false}
+use Rattle.std.proofs.lemmas.Bool.Decides.{leb_tells}
+use Rattle.std.proofs.lemmas.List.Sums.{position_or_len_is}
 use Rattle.std.proofs.lemmas.List.{length-map, length-take-le}
 use Rattle.std.proofs.lemmas.Cmp.{nat_eq_equiv}
 use Rattle.std.proofs.lemmas.Map.Keys.{IsDistinct-cons}
 use Rattle.std.proofs.lemmas.Map.Made.{length-le_from_is_member}
 use Rattle.std.proofs.lemmas.Option.{none-some, same_Some, slice_get_within}
-use Rattle.heap_questions.specs.Distances.{AreInOrder, AreNearest, IsBefore, IsNearStart, StandsIn, far, with_start}
+use Rattle.heap_questions.specs.Distances.{AreInOrder, AreNearest, IsNearerStart, IsNearStart, StandsIn, far, with_start}
 use Rattle.heap_questions.specs.PathsApart.{Route}
 use Rattle.heap_questions.specs.Search.{slot_span}
 use Rattle.heap_questions.specs.Starts.{starts_by}
@@ -75,7 +78,7 @@ others_stand b a (c ∷ cs) (inr r) = elim (cases_Bool (nat_lt b.distance c.dist
   | inr f ↦ subst (StandsIn a) (sym (put_later b c cs f)) (inr (others_stand b a cs r))
 ]
 
-nearer_than : (b c a : Start) → b.distance < c.distance → IsBefore c a → IsBefore b a
+nearer_than : (b c a : Start) → b.distance < c.distance → IsNearerStart c a → IsNearerStart b a
 nearer_than b c a l (inl m) = inl (omega (arith, l, m))
 nearer_than b c a l (inr m) = inl (let e = m.0 in omega (arith, l, e))
 
@@ -84,14 +87,43 @@ order_put b [] n o = (tt, tt)
 order_put b (c ∷ cs) n o = elim (cases_Bool (nat_lt b.distance c.distance)) [
   | inl t ↦
       let l : b.distance < c.distance = ltb-true b.distance c.distance t in
-      subst AreInOrder (sym (put_here b c cs t)) ((inl l, all_as (IsBefore c) (IsBefore b) (λ a m. nearer_than b c a l m) cs o.0), o)
+      subst AreInOrder (sym (put_here b c cs t)) ((inl l, all_as (IsNearerStart c) (IsNearerStart b) (λ a m. nearer_than b c a l m) cs o.0), o)
   | inr f ↦
       let l : c.distance ≤ b.distance = ltb-false b.distance c.distance f in
-      subst AreInOrder (sym (put_later b c cs f)) (all_put (IsBefore c) b cs (not_nearer l) o.0, order_put b cs n.1 o.1)
+      subst AreInOrder (sym (put_later b c cs f)) (all_put (IsNearerStart c) b cs (not_nearer l) o.0, order_put b cs n.1 o.1)
 ]
   where
-    not_nearer : c.distance ≤ b.distance → IsBefore c b
+    not_nearer : c.distance ≤ b.distance → IsNearerStart c b
     not_nearer l = elim (cases_lt c.distance b.distance) [ inl m ↦ inl m | inr m ↦ inr (omega (arith, l, m), n.0) ]
+
+-- ---- their distances
+
+no_nearer : (b : Start) (bs : List Start) (j : ℕ) (d : Start) → AllByRecursion (IsNearerStart b) bs → j < length bs → b.distance ≤ (get_or bs j d).distance
+no_nearer b [] j d a l = absurd (omega (arith, l))
+no_nearer b (c ∷ cs) zero d a l = elim a.0 [ inl m ↦ omega (arith, m) | inr m ↦ (let same = m.0 in omega (arith, same)) ]
+no_nearer b (c ∷ cs) (suc j) d a l = no_nearer b cs j d a.1 (omega (arith, l))
+
+pub distances_rise : (bs : List Start) → AreInOrder bs → IsNonDecreasingBy (λ (b : Start). b.distance) bs
+distances_rise [] o i j d le l = absurd (omega (arith, l))
+distances_rise (b ∷ bs) o zero zero d le l = omega arith
+distances_rise (b ∷ bs) o zero (suc j) d le l = no_nearer b bs j d o.0 (omega (arith, l))
+distances_rise (b ∷ bs) o (suc i) zero d le l = absurd (omega (arith, le))
+distances_rise (b ∷ bs) o (suc i) (suc j) d le l = distances_rise bs o.1 i j d (omega (arith, le)) (omega (arith, l))
+
+pub first_past : (distance i : ℕ) (bs : List Start) → i ≤ length bs → IsPartitionPoint (λ (b : Start). leb b.distance distance ≡ true) (λ (b : Start). leb b.distance distance ≡ false) bs i → i ≡ position_or_len (λ (b : Start). nat_lt distance b.distance) bs
+first_past distance i bs within point = sym (position_or_len_is (λ (b : Start). nat_lt distance b.distance) bs i some within near past)
+  where
+    some : Start
+    some = record { number = 0; id = 0; distance = 0 }
+
+    near : (k : ℕ) → k < i → nat_lt distance (get_or bs k some).distance ≡ false
+    near k l = le-ltb distance (get_or bs k some).distance (leb-true (get_or bs k some).distance distance (point.0 k some (omega arith) l))
+
+    past : i < length bs → nat_lt distance (get_or bs i some).distance ≡ true
+    past l = elim (leb_tells (get_or bs i some).distance distance) [
+      | inl is ↦ absurd (true≢false (sym is.0 ∙ point.1 i some (omega arith) l))
+      | inr is ↦ lt-ltb distance (get_or bs i some).distance is.1
+    ]
 
 -- ---- the first of them
 
@@ -99,29 +131,29 @@ order_first : (n : ℕ) (bs : List Start) → AreInOrder bs → AreInOrder (take
 order_first zero [] o = tt
 order_first zero (b ∷ bs) o = tt
 order_first (suc n) [] o = tt
-order_first (suc n) (b ∷ bs) o = (all_first (IsBefore b) n bs o.0, order_first n bs o.1)
+order_first (suc n) (b ∷ bs) o = (all_first (IsNearerStart b) n bs o.0, order_first n bs o.1)
 
 -- one of them is among the first n, or these come before it
-stands_first : (n : ℕ) (b : Start) (bs : List Start) → AreInOrder bs → StandsIn b bs → StandsIn b (take n bs) ⊎ ((length (take n bs) ≡ n) × AllByRecursion (λ a. IsBefore a b) (take n bs))
+stands_first : (n : ℕ) (b : Start) (bs : List Start) → AreInOrder bs → StandsIn b bs → StandsIn b (take n bs) ⊎ ((length (take n bs) ≡ n) × AllByRecursion (λ a. IsNearerStart a b) (take n bs))
 stands_first n b [] o s = absurd s
 stands_first zero b (c ∷ cs) o s = inr (refl, tt)
 stands_first (suc n) b (c ∷ cs) o (inl e) = inl (inl e)
 stands_first (suc n) b (c ∷ cs) o (inr s) = elim (stands_first n b cs o.1 s) [
   | inl t ↦ inl (inr t)
-  | inr r ↦ inr (ap suc r.0, (one_of_all (IsBefore c) b cs o.0 s, r.1))
+  | inr r ↦ inr (ap suc r.0, (one_of_all (IsNearerStart c) b cs o.0 s, r.1))
 ]
 
 -- those that come before a stay before it, if one more is put among them and the last is taken away
-before_stays : (a b : Start) (bs : List Start) → AllByRecursion (λ c. IsBefore c a) bs → (length (take (length bs) (with_start b bs)) ≡ length bs) × AllByRecursion (λ c. IsBefore c a) (take (length bs) (with_start b bs))
+before_stays : (a b : Start) (bs : List Start) → AllByRecursion (λ c. IsNearerStart c a) bs → (length (take (length bs) (with_start b bs)) ≡ length bs) × AllByRecursion (λ c. IsNearerStart c a) (take (length bs) (with_start b bs))
 before_stays a b [] h = (refl, tt)
 before_stays a b (c ∷ cs) h = elim (cases_Bool (nat_lt b.distance c.distance)) [
   | inl t ↦
       let l : b.distance < c.distance = ltb-true b.distance c.distance t in
-      subst (λ (l : List Start). (length (take (length (c ∷ cs)) l) ≡ length (c ∷ cs)) × AllByRecursion (λ c. IsBefore c a) (take (length (c ∷ cs)) l)) (sym (put_here b c cs t))
-      (ap suc (length-take-le (length cs) (c ∷ cs) (omega arith)), (nearer_than b c a l h.0, all_first (λ c. IsBefore c a) (length cs) (c ∷ cs) h))
+      subst (λ (l : List Start). (length (take (length (c ∷ cs)) l) ≡ length (c ∷ cs)) × AllByRecursion (λ c. IsNearerStart c a) (take (length (c ∷ cs)) l)) (sym (put_here b c cs t))
+      (ap suc (length-take-le (length cs) (c ∷ cs) (omega arith)), (nearer_than b c a l h.0, all_first (λ c. IsNearerStart c a) (length cs) (c ∷ cs) h))
   | inr f ↦
       let rest = before_stays a b cs h.1 in
-      subst (λ (l : List Start). (length (take (length (c ∷ cs)) l) ≡ length (c ∷ cs)) × AllByRecursion (λ c. IsBefore c a) (take (length (c ∷ cs)) l)) (sym (put_later b c cs f))
+      subst (λ (l : List Start). (length (take (length (c ∷ cs)) l) ≡ length (c ∷ cs)) × AllByRecursion (λ c. IsNearerStart c a) (take (length (c ∷ cs)) l)) (sym (put_later b c cs f))
       (ap suc rest.0, (h.0, rest.1))
 ]
 
@@ -130,13 +162,13 @@ before_stays a b (c ∷ cs) h = elim (cases_Bool (nat_lt b.distance c.distance))
 pub nearest_none : (d : ℕ → ℕ) (registers : List ℕ) (most : ℕ) → AreNearest d registers 0 most []
 nearest_none d registers most = record { each = tt; ordered = tt; rest = λ b n. absurd (let below = n.below in omega (arith, below)) }
 
-wider : (d : ℕ → ℕ) (registers : List ℕ) (i n : ℕ) (b : Start) → i ≤ n → IsNearStart d registers i b → IsNearStart d registers n b
-wider d registers i n b le s = record { below = let below = s.below in omega (arith, below, le); names = s.names; told = s.told; near = s.near }
+near_in_more : (d : ℕ → ℕ) (registers : List ℕ) (i n : ℕ) (b : Start) → i ≤ n → IsNearStart d registers i b → IsNearStart d registers n b
+near_in_more d registers i n b le s = record { below = let below = s.below in omega (arith, below, le); names = s.names; told = s.told; near = s.near }
 
 -- registers that name nothing near are passed over
 pub nearest_past : (d : ℕ → ℕ) (registers : List ℕ) (i n most : ℕ) (bs : List Start) → i ≤ n → ((q z : ℕ) → i ≤ q → q < n → slice_get registers q ≡ Some z → far ≤ d z) → AreNearest d registers i most bs → AreNearest d registers n most bs
 nearest_past d registers i n most bs le none is = record {
-  each = all_as (IsNearStart d registers i) (IsNearStart d registers n) (λ b s. wider d registers i n b le s) bs is.each;
+  each = all_as (IsNearStart d registers i) (IsNearStart d registers n) (λ b s. near_in_more d registers i n b le s) bs is.each;
   ordered = is.ordered;
   rest = λ b s. elim (cases_lt b.number i) [
     | inl l ↦ is.rest b (record { below = l; names = s.names; told = s.told; near = s.near })
@@ -151,12 +183,12 @@ nearest_past d registers i n most bs le none is = record {
 -- one that names something near
 pub nearest_more : (d : ℕ → ℕ) (registers : List ℕ) (n most : ℕ) (b : Start) (bs : List Start) → b.number ≡ n → IsNearStart d registers (n + 1) b → AreNearest d registers n most bs → AreNearest d registers (n + 1) most (take most (with_start b bs))
 nearest_more d registers n most b bs at near is = record {
-  each = all_first (IsNearStart d registers (n + 1)) most (with_start b bs) (all_put (IsNearStart d registers (n + 1)) b bs near (all_as (IsNearStart d registers n) (IsNearStart d registers (n + 1)) (λ c s. wider d registers n (n + 1) c (omega arith) s) bs is.each));
+  each = all_first (IsNearStart d registers (n + 1)) most (with_start b bs) (all_put (IsNearStart d registers (n + 1)) b bs near (all_as (IsNearStart d registers n) (IsNearStart d registers (n + 1)) (λ c s. near_in_more d registers n (n + 1) c (omega arith) s) bs is.each));
   ordered = order_first most (with_start b bs) order;
   rest = λ c s. elim (cases_lt c.number n) [
     | inl l ↦ elim (is.rest c (record { below = l; names = s.names; told = s.told; near = s.near })) [
       | inl t ↦ stands_first most c (with_start b bs) order (others_stand b c bs t)
-      | inr full ↦ inr (subst (λ k. (length (take k (with_start b bs)) ≡ k) × AllByRecursion (λ x. IsBefore x c) (take k (with_start b bs))) full.0 (before_stays c b bs full.1))
+      | inr full ↦ inr (subst (λ k. (length (take k (with_start b bs)) ≡ k) × AllByRecursion (λ x. IsNearerStart x c) (take k (with_start b bs))) full.0 (before_stays c b bs full.1))
     ]
     | inr ge ↦ stands_first most c (with_start b bs) order (subst (λ x. StandsIn x (with_start b bs)) (same c s ge) (put_stands b bs))
   ];
@@ -174,7 +206,7 @@ nearest_more d registers n most b bs at near is = record {
 
 -- ---- the first that passes a test
 
-pub first_passes : (test : Start → Bool) (b : Start) (bs : List Start) → AreInOrder bs → find test bs ≡ Some b → StandsIn b bs × (test b ≡ true) × ((c : Start) → StandsIn c bs → test c ≡ true → (b ≡ c) ⊎ IsBefore b c)
+pub first_passes : (test : Start → Bool) (b : Start) (bs : List Start) → AreInOrder bs → find test bs ≡ Some b → StandsIn b bs × (test b ≡ true) × ((c : Start) → StandsIn c bs → test c ≡ true → (b ≡ c) ⊎ IsNearerStart b c)
 first_passes test b [] o e = absurd (none-some b e)
 first_passes test b (x ∷ xs) o e = elim (cases_Bool (test x)) [
   | inl t ↦
@@ -185,11 +217,11 @@ first_passes test b (x ∷ xs) o e = elim (cases_Bool (test x)) [
       (inr rest.0, rest.1, λ c s h. there f rest.2 c s h)
 ]
   where
-    here : x ≡ b → (c : Start) → StandsIn c (x ∷ xs) → (b ≡ c) ⊎ IsBefore b c
+    here : x ≡ b → (c : Start) → StandsIn c (x ∷ xs) → (b ≡ c) ⊎ IsNearerStart b c
     here same c (inl s) = inl (sym same ∙ s)
-    here same c (inr s) = inr (subst (λ y. IsBefore y c) same (one_of_all (IsBefore x) c xs o.0 s))
+    here same c (inr s) = inr (subst (λ y. IsNearerStart y c) same (one_of_all (IsNearerStart x) c xs o.0 s))
 
-    there : test x ≡ false → ((c : Start) → StandsIn c xs → test c ≡ true → (b ≡ c) ⊎ IsBefore b c) → (c : Start) → StandsIn c (x ∷ xs) → test c ≡ true → (b ≡ c) ⊎ IsBefore b c
+    there : test x ≡ false → ((c : Start) → StandsIn c xs → test c ≡ true → (b ≡ c) ⊎ IsNearerStart b c) → (c : Start) → StandsIn c (x ∷ xs) → test c ≡ true → (b ≡ c) ⊎ IsNearerStart b c
     there f rest c (inl s) h = absurd (true≢false (sym h ∙ ap test (sym s) ∙ f))
     there f rest c (inr s) h = rest c s h
 
@@ -212,13 +244,13 @@ is_used earlier b = list_any (starts_by (b.number / slot_span) (b.number % slot_
 abbrev number_of : Route → ℕ
 number_of p = p.register * slot_span + unwrap_or (slice_get p.slots 0) 0
 
-differ : (d : ℕ → ℕ) (registers : List ℕ) (n : ℕ) (b c : Start) → IsNearStart d registers n b → IsNearStart d registers n c → IsBefore b c → b.number ≢ c.number
-differ d registers n b c s t before e = go before
+numbers_differ : (d : ℕ → ℕ) (registers : List ℕ) (n : ℕ) (b c : Start) → IsNearStart d registers n b → IsNearStart d registers n c → IsNearerStart b c → b.number ≢ c.number
+numbers_differ d registers n b c s t before e = go before
   where
     far_alike : b.distance ≡ c.distance
     far_alike = sym s.told ∙ ap d (same_Some b.id c.id (sym s.names ∙ ap (slice_get registers) e ∙ t.names)) ∙ t.told
 
-    go : IsBefore b c → ⊥
+    go : IsNearerStart b c → ⊥
     go (inl l) = absurd (omega (arith, l, far_alike))
     go (inr l) = absurd (let less = l.1 in omega (arith, less, e))
 
@@ -227,9 +259,9 @@ unfolding IsDistinct
 numbers_distinct d registers n [] a o = tt
 numbers_distinct d registers n (b ∷ bs) a o = IsDistinct-cons eqb b.number (map (λ (b : Start). b.number) bs) (others bs a.1 o.0) (numbers_distinct d registers n bs a.1 o.1)
   where
-    others : (cs : List Start) → AllByRecursion (IsNearStart d registers n) cs → AllByRecursion (IsBefore b) cs → AllByRecursion (λ y. eqb b.number y ≡ false) (map (λ (b : Start). b.number) cs)
+    others : (cs : List Start) → AllByRecursion (IsNearStart d registers n) cs → AllByRecursion (IsNearerStart b) cs → AllByRecursion (λ y. eqb b.number y ≡ false) (map (λ (b : Start). b.number) cs)
     others [] s l = tt
-    others (c ∷ cs) s l = (ne_eqb b.number c.number (differ d registers n b c a.0 s.0 l.0), others cs s.1 l.1)
+    others (c ∷ cs) s l = (ne_eqb b.number c.number (numbers_differ d registers n b c a.0 s.0 l.0), others cs s.1 l.1)
 
 used_number : (earlier : List Route) (q : ℕ) → list_any (starts_by (q / slot_span) (q % slot_span)) earlier ≡ true → list_any (eqb q) (map number_of earlier) ≡ true
 used_number [] q h = h

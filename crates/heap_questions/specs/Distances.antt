@@ -86,8 +86,8 @@ IsNamedBy image r o =
     (x : ℕ) × (slice_get image.registers r ≡ Some x) × (object_with image x ≡ Some o)
 
 -- a comes before b: it is nearer, or as near with a lower number
-abbrev pub IsBefore : Start → Start → Type 0
-IsBefore a b =
+abbrev pub IsNearerStart : Start → Start → Type 0
+IsNearerStart a b =
     (a.distance < b.distance) ⊎ ((a.distance ≡ b.distance) × (a.number < b.number))
 
 -- one of the first n registers, which names something near
@@ -100,7 +100,7 @@ pub record IsNearStart (d : ℕ → ℕ) (registers : List ℕ) (n : ℕ) (b : S
 -- each comes before those behind it
 abbrev pub AreInOrder : List Start → Type 0
 AreInOrder [] = ⊤
-AreInOrder (b ∷ bs) = AllByRecursion (IsBefore b) bs × AreInOrder bs
+AreInOrder (b ∷ bs) = AllByRecursion (IsNearerStart b) bs × AreInOrder bs
 
 -- b is one of them
 abbrev pub StandsIn : Start → List Start → Type 0
@@ -112,7 +112,7 @@ pub record AreNearest (d : ℕ → ℕ) (registers : List ℕ) (n most : ℕ) (s
   pub each : AllByRecursion (IsNearStart d registers n) starts
   pub ordered : AreInOrder starts
   pub rest : (b : Start) → IsNearStart d registers n b
-      → StandsIn b starts ⊎ ((length starts ≡ most) × AllByRecursion (λ a. IsBefore a b) starts)
+      → StandsIn b starts ⊎ ((length starts ≡ most) × AllByRecursion (λ a. IsNearerStart a b) starts)
 
 -- a start is put before the first that is farther
 abbrev pub with_start : Start → List Start → List Start

@@ -32,7 +32,7 @@ pub fn first_of_paths_is_path()
 
 /// Returns `most` paths to the object with this id, of which no two start at the same register by the same slot, or as many as
 /// there are: each is the shortest that starts like none of those before it, of all such the first by register, then by slot.
-/// Fails with NoMemory. Reads each object twice, and for each path the objects along it and those that registers name.
+/// Fails with NoMemory. Reads each object twice, those that registers name once more, and for each path the objects along it.
 pub fn paths_apart<V: View>(
     alloc: Global,
     view: &V,
@@ -163,13 +163,8 @@ fn next_path_to<V: View>(
                 hops,
             }))
         }
-        None => {
-            if exact {
-                path_by_distance(alloc, view, nodes, table, near, id, paths)
-            } else {
-                path_by_slot(alloc, view, nodes, id, goal, paths)
-            }
-        }
+        None if exact => path_by_distance(alloc, view, nodes, table, near, id, paths),
+        None => path_by_slot(alloc, view, nodes, id, goal, paths),
     }
 }
 
@@ -211,7 +206,7 @@ fn is_register_alone(path: &Path, register: u64) -> bool
 
 // Returns the first path to the object with this id that starts like none of these paths, by the distances of all objects from it.
 // At each register that names it one of the paths must start that has no slots. The nodes must be the view's. Fails with NoMemory.
-// Reads the objects that registers name, and those along the path.
+// Reads the objects along the path.
 fn path_by_distance<V: View>(
     alloc: Global,
     view: &V,

@@ -1,7 +1,7 @@
 //! The starts of paths from which the goal is nearest, by the distances of all objects.
 ghost use Rattle.std.specs.Prelude.{◌≡◌, ◌+◌, ◌*◌, ◌<◌, [], Some, find, length, nat_lt, not, slice_get, take, IfOk, OnOk, ◌/◌, ◌%◌, ◌≤◌};
 ghost use Rattle.std.specs.List.{list_any, position_or_len};
-ghost use Rattle.heap_questions.specs.Distances.{AreNearest, IsNamedBy, distance_by, with_start};
+ghost use Rattle.heap_questions.specs.Distances.{AreInOrder, AreNearest, IsNamedBy, distance_by, with_start};
 ghost use Rattle.heap_questions.specs.PathsApart.{route_of};
 ghost use Rattle.heap_questions.specs.Search.{AreNodes, slot_span};
 ghost use Rattle.heap_questions.specs.Starts.{starts_by, with_starts};
@@ -138,8 +138,9 @@ fn add_slot<V: View>(
     )
 }
 
-// Puts a start before the first that is farther, and keeps `most`. Fails if an allocation fails.
+// Puts a start before the first that is farther, and keeps `most`. They must be in order. Fails if an allocation fails.
 fn place(starts: &mut Vec<Start>, most: usize, start: Start) -> Result<(), AllocError>
+    requires { AreInOrder starts.old.items }
     ensures { OnOk result (starts.new.items ≡ take most (with_start start starts.old.items)) }
 {
     let at = first_farther(starts.as_slice(), start.distance);
@@ -148,17 +149,13 @@ fn place(starts: &mut Vec<Start>, most: usize, start: Start) -> Result<(), Alloc
     Ok(())
 }
 
-// Returns the place of the first start that is farther than this, or the number of starts if none is.
+// Returns the place of the first start that is farther than this, or the number of starts if none is. They must be in order.
 fn first_farther(starts: &[Start], distance: u32) -> usize
+    requires { AreInOrder starts.now }
     ensures within { result ≤ length starts.now }
     ensures place { result ≡ position_or_len (λ b. nat_lt distance b.distance) starts.now }
 {
-    for place in 0..starts.len() {
-        if distance < starts[place].distance {
-            return place;
-        }
-    }
-    starts.len()
+    starts.partition_point(|start| start.distance <= distance)
 }
 
 // Returns the first start by which none of these paths begins, or None if each has one.

@@ -1,10 +1,13 @@
-use Rattle.std.proofs.Common.{◌≡◌, ◌∙◌, List, take, sym, ap}
+use Rattle.std.proofs.Common.{◌≡◌, ◌∙◌, List, take, sym, ap, subst}
 use Rattle.std.specs.Prelude.{nat_lt}
 use Rattle.std.specs.List.{insert, position_or_len}
-use Rattle.heap_questions.specs.Distances.{with_start}
+use Rattle.heap_questions.specs.Distances.{AreInOrder, with_start}
 use Rattle.heap_questions.specs.declared.nearest.Start.{Start}
 use Rattle.heap_questions.proofs.NearestStarts.{put_at_place}
 use Rattle.heap_questions.proofs.nearest.place.Goals as goal
+
+pub first_farther-at-requires : goal.first_farther-at-requires
+first_farther-at-requires c = subst AreInOrder (sym c.as_slice.ensures.value) c.requires
 
 pub returns : goal.returns
 returns c =

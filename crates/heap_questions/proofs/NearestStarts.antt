@@ -1,6 +1,6 @@
 -- The nearest starts in order, and the first of them that isn't used.
 use Rattle.std.proofs.Common.{◌≡◌, ◌≢◌, ◌⊎◌, ℕ, suc, zero, ◌+◌, ◌*◌, ◌/◌, ◌%◌, ◌<◌, ◌≤◌, Bool, true, false, cond, eqb, leb, get_or, List, [], ◌∷◌, length, ltb-true, ltb-false, map, take, Option, Some, None, refl, sym, ap, ◌∙◌, subst, inl, inr, arith}
-use Rattle.std.specs.Prelude.{◌==◌, ◌||◌, find, nat_lt, not, slice_get, unwrap_or}
+use Rattle.std.specs.Prelude.{◌||◌, find, nat_lt, not, slice_get, unwrap_or}
 use Rattle.std.specs.List.{AllByRecursion, IsDistinct, insert, list_any, position_or_len}
 use Rattle.std.specs.List.Sorted.{IsNonDecreasingBy, IsPartitionPoint}
 use Rattle.std.proofs.lemmas.Bool.{cases_Bool, cases_lt, eqb-true, eq-eqb, le-ltb, leb-true, lt-ltb, ne_eqb, true≢false}
@@ -10,7 +10,7 @@ use Rattle.std.proofs.lemmas.List.{length-map, length-take-le}
 use Rattle.std.proofs.lemmas.Cmp.{nat_eq_equiv}
 use Rattle.std.proofs.lemmas.Map.Keys.{IsDistinct-cons}
 use Rattle.std.proofs.lemmas.Map.Made.{length-le_from_is_member}
-use Rattle.std.proofs.lemmas.Option.{none-some, same_Some, slice_get_within}
+use Rattle.std.proofs.lemmas.Option.{none-some, same_Some}
 use Rattle.heap_questions.specs.Distances.{AreInOrder, AreNearest, IsNearerStart, IsNearStart, StandsIn, far, with_start}
 use Rattle.heap_questions.specs.PathsApart.{Route}
 use Rattle.heap_questions.specs.Search.{slot_span}

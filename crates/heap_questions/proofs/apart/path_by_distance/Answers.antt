@@ -1,6 +1,6 @@
 use Rattle.std.proofs.Common.{◌≡◌, ◌<◌, ◌∙◌, ℕ, List, [], ◌∷◌, ◌++◌, ◌/◌, ◌%◌, ap, length, map, sym, subst, arith}
 use Rattle.std.specs.Prelude.{None, Some, slice_get}
-use Rattle.heap_questions.specs.Distances.{distance_by, far}
+use Rattle.heap_questions.specs.Distances.{distance_by}
 use Rattle.heap_questions.specs.Hops.{AreHops, slots_of}
 use Rattle.heap_questions.specs.PathsApart.{IsNextPath, Route, route_of}
 use Rattle.heap_questions.specs.Search.{slot_span}

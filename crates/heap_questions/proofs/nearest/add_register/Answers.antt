@@ -1,4 +1,4 @@
-use Rattle.std.proofs.Common.{◌≡◌, ◌≤◌, ◌∙◌, ◌+◌, ◌*◌, [], sym, subst, arith}
+use Rattle.std.proofs.Common.{◌≡◌, ◌∙◌, ◌+◌, ◌*◌, [], sym, subst, arith}
 use Rattle.heap_questions.specs.Distances.{AreNearest, distance_by}
 use Rattle.heap_questions.specs.Search.{slot_span}
 use Rattle.heap_questions.specs.Starts.{with_starts}

@@ -1,10 +1,7 @@
-use Rattle.std.proofs.Common.{◌≡◌, ◌<◌, ◌∙◌, ◌*◌, [], length, sym, ap, subst, arith}
-use Rattle.std.specs.Prelude.{slice_get}
-use Rattle.std.proofs.lemmas.Option.{slice_get-get_or}
+use Rattle.std.proofs.Common.{◌≡◌, ◌∙◌, ◌*◌, [], length, sym, ap, subst, arith}
 use Rattle.heap_questions.specs.Distances.{AreNearest, distance_by}
 use Rattle.heap_questions.specs.Search.{slot_span}
 use Rattle.heap_questions.specs.Starts.{with_starts}
-use Rattle.heap_questions.proofs.NearestStarts.{nearest_none}
 use Rattle.heap_questions.proofs.Starting.{starts_many}
 use Rattle.heap_questions.proofs.nearest.nearest_starts.Goals as goal
 

@@ -1,7 +1,7 @@
-use Rattle.std.proofs.Common.{◌≡◌, ◌∙◌, List, take, sym, ap, subst}
+use Rattle.std.proofs.Common.{◌≡◌, ◌∙◌, take, sym, ap, subst}
 use Rattle.std.specs.Prelude.{nat_lt}
 use Rattle.std.specs.List.{insert, position_or_len}
-use Rattle.heap_questions.specs.Distances.{AreInOrder, with_start}
+use Rattle.heap_questions.specs.Distances.{AreInOrder}
 use Rattle.heap_questions.specs.declared.nearest.Start.{Start}
 use Rattle.heap_questions.proofs.NearestStarts.{put_at_place}
 use Rattle.heap_questions.proofs.nearest.place.Goals as goal

@@ -24,6 +24,7 @@ pub mod WaysBack
 pub mod Hops
 pub mod Starting
 pub mod ShortestWays
+pub mod NearestStarts
 pub mod KnownDistances
 pub mod StartSearch
 pub mod PathStarts

@@ -45,10 +45,11 @@ SESSIONS = {
     "largest": (Draw.reach_largest, (), 1, {"regions": 2054, "keep": 100, "wide": 1, "area": 2051}),
     "asked-large": (AskingDraw.play, (800,), 3, {"regions": 8, "keep": 200, "wide": 1, "area": 5}),
     "asked-more": (AskingDraw.play, (1500,), 8, {"regions": 5, "keep": 40}),
+    "asked-large-more": (AskingDraw.play, (800,), 2, {"regions": 8, "keep": 200, "wide": 1, "area": 5}),
 }
 NAMES = [f"{name}-{number}" for name, (_, _, count, _) in SESSIONS.items() for number in range(1, count + 1)]
 # The sessions with questions, which go to `explore`.
-ASKED = ("asked", "asked-short", "asked-wide", "asked-large", "asked-more")
+ASKED = ("asked", "asked-short", "asked-wide", "asked-large", "asked-more", "asked-large-more")
 # How sessions end: what comes after the last line, how it is answered, and the status and standard error of the program. The last
 # one has as many letters as make a line too long.
 ENDS = (

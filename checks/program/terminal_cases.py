@@ -11,10 +11,11 @@ import struct
 import subprocess
 import tempfile
 import termios
+import threading
 import time
 
 from ports import free_port
-from runs import SECONDS, TOP, read_or_nothing, run
+from runs import SECONDS, TOP, read_or_nothing, run, run_by_terminal
 
 
 def shown_next(stream, seconds):
@@ -487,12 +488,79 @@ def by_editor(script, folder):
         return found, status, b"histogram" in file.read()
 
 
-def shown_until(stream, wanted):
-    """Returns what a terminal shows until that fits a pattern, or until nothing comes any more."""
+def shown_until(stream, wanted, seconds=SECONDS):
+    """Returns what a terminal shows until that fits a pattern, or until nothing comes for this long."""
     shown = b""
-    while not re.search(wanted, shown, re.DOTALL) and (more := shown_next(stream, SECONDS)):
+    while not re.search(wanted, shown, re.DOTALL) and (more := shown_next(stream, seconds)):
         shown += more
     return shown
+
+
+# What is shown of a line that is being answered for seconds, and what clears it.
+TICKS = rb"(?:\rheapdbg: source: [1-9][0-9]* s)+"
+CLEARED = b"\r" + b" " * 38 + b"\r"
+# How long to wait for what must not be shown after a second.
+SILENT = 1.6
+
+
+def held(program, words, output, seconds):
+    """Returns what a terminal shows of `explore` with a line that reads a named pipe, which is fed once the seconds of the line are
+    shown, or after this many, and the status. Its standard output is a file, if there is one."""
+    with tempfile.TemporaryDirectory() as folder:
+        path = os.path.join(folder, "pipe")
+        os.mkfifo(path)
+        child, terminal = pty.fork()
+        if child == 0:
+            if output is not None:
+                os.dup2(output.fileno(), 1)
+            os.execve(program, ["heapdbg", "explore", *words], os.environ)
+        with os.fdopen(terminal, "r+b", buffering=0) as stream, open(path, "r+b", buffering=0) as pipe:
+            subprocess.run(["stty", "-echo", "-onlcr"], stdin=stream, check=True, timeout=SECONDS)
+            shown = shown_until(stream, b"> ")
+            stream.write(b"source %s\n" % path.encode())
+            shown += shown_until(stream, b" s$", seconds)
+            pipe.write(b"clear 0 0\n")
+            pipe.close()
+            shown += shown_until(stream, b"> ")
+            stream.write(b"q\n")
+            shown += shown_until(stream, b"(?!)")
+        return shown, status_of(child, SECONDS)
+
+
+def ticked(program, words=(), output=None):
+    """Returns what a terminal shows of a line that takes over a second, with TICKS for its seconds, whether these rise, and the status."""
+    shown, status = held(program, words, output, SECONDS)
+    seconds = [int(second) for second in re.findall(rb"([0-9]+) s", shown)]
+    return re.sub(TICKS, b"TICKS", shown), seconds == sorted(set(seconds)), status
+
+
+def long_answers(program):
+    """Yields what is shown while a line is being answered for over a second, as (name, what happened, what must happen): its seconds, at
+    a terminal that isn't quiet, and nothing of it on standard output."""
+    replies = b"ok\nok place 1\n"
+    told = b"heapdbg 0> TICKS" + CLEARED
+    yield "a long answer", ticked(program), (told + replies + b"heapdbg 1> ", True, 0)
+    with tempfile.TemporaryFile() as output:
+        shown = ticked(program, output=output)
+        output.seek(0)
+        yield "a long answer to a file", (*shown, output.read()), (told + b"heapdbg 1> ", True, 0, replies)
+    silent = (b"heapdbg 0> " + replies + b"heapdbg 1> ", 0)
+    yield "a long answer at a quiet terminal", held(program, ["--quiet"], None, SILENT), silent
+    yield "a long answer on a pipe", late_line(program), (0, replies, b"")
+
+
+def late_line(program):
+    """Returns status, standard output and standard error of `explore` for a line on a pipe that takes over a second, beside a terminal
+    that is its standard error."""
+    with tempfile.TemporaryDirectory() as folder:
+        path = os.path.join(folder, "pipe")
+        os.mkfifo(path)
+        with open(path, "r+b", buffering=0) as pipe:
+            feed = threading.Timer(SILENT, lambda: (pipe.write(b"clear 0 0\n"), pipe.close()))
+            feed.start()
+            ran = run_by_terminal(program, ["explore"], b"source %s\n" % path.encode())
+            feed.join()
+        return ran
 
 
 def at_a_terminal(program):
@@ -503,6 +571,7 @@ def at_a_terminal(program):
     yield from logged(program)
     yield "states that aren't there", typed(program, ["explore", "--keep", "2"], STATES), (STATES_SHOWN, 0)
     yield from by_script(program)
+    yield from long_answers(program)
     yield "an interrupt", typed(program, ["explore"], [b"frobnic\x03"])[1:], (-signal.SIGINT,)
     yield "explore with a page", typed_beside(program, [], TYPED), (b"heapdbg: ADDRESS\n" + SHOWN, 0)
     yield "states that aren't there, with a page", typed_beside(program, ["--keep", "2"], STATES), (b"heapdbg: ADDRESS\n" + STATES_SHOWN, 0)

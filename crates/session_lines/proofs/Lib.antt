@@ -1,4 +1,3 @@
 pub mod SpacedWords
 pub mod EventWords
 pub mod MoreLines
-pub mod Digits

@@ -59,29 +59,29 @@ impl<'a, F: Read + Drop, R> LineInlet<'a, F, R> {
             given: Given::new(),
         })
     }
+}
 
-    // Keeps a part of a line, if there is memory for it, and counts the line if it begins here.
-    fn keep(&mut self, part: &[u8]) {
-        let is_begun = match self.line.last() {
-            Some(last) => *last != LINE_END,
-            None => self.reports.number() > 0,
-        };
-        if !is_begun {
-            self.line.clear();
-            self.reports.add(1);
-        }
-        if self.line.extend_from_slice(part).is_err() {
-            self.line.clear();
-        }
+// Keeps a part of a line, if there is memory for it, and counts the line if it begins here.
+fn keep<R>(reports: &mut LineReports<'_, R>, line: &mut Vec<u8>, part: &[u8]) {
+    let is_begun = match line.last() {
+        Some(last) => *last != LINE_END,
+        None => reports.number() > 0,
+    };
+    if !is_begun {
+        line.clear();
+        reports.add(1);
     }
+    if line.extend_from_slice(part).is_err() {
+        line.clear();
+    }
+}
 
-    // Keeps what a read gave, if there is memory for it.
-    fn keep_read(&mut self, room: &[u8], took: Take)
-        requires { IsLineGiven room.now took }
-    {
-        if let Take::Got(n) = took {
-            self.keep(&room[..n]);
-        }
+// Keeps what a read gave, if there is memory for it.
+fn keep_read<R>(reports: &mut LineReports<'_, R>, line: &mut Vec<u8>, room: &[u8], took: Take)
+    requires { IsLineGiven room.now took }
+{
+    if let Take::Got(n) = took {
+        keep(reports, line, &room[..n]);
     }
 }
 
@@ -107,7 +107,7 @@ impl<F: Read + Drop, R: Clock + Eprint> Inlet for LineInlet<'_, F, R> {
         let answer = self.answers.take();
         self.reports.report(answer.as_slice(), self.line.as_slice());
         let took = read_line(&mut self.reader, room);
-        self.keep_read(room, took);
+        keep_read(&mut self.reports, &mut self.line, room, took);
         self.given.note(room, took);
         took
     }

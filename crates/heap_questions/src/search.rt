@@ -11,9 +11,6 @@ use hprof_text::View;
 use std::alloc::Global;
 use std::mem::size_of;
 
-// The number of objects that are read ahead at once.
-const AHEAD: usize = 16;
-
 // More than an object has slots.
 pub(crate) const SLOT_SPAN: u32 = 2_097_152;
 
@@ -31,13 +28,11 @@ pub(crate) struct Entry {
 // A search has one for each object that it found.
 const _: () = prove!(size_of::<Entry>() <= 8);
 
-// What the registers reach: which nodes were found, and how, in the order in which they were. `ahead` keeps what was read ahead,
-// which nobody needs.
+// What the registers reach: which nodes were found, and how, in the order in which they were.
 #[derive(Drop)]
 pub(crate) struct Reach {
     pub(crate) seen: Vec<bool>,
     pub(crate) queue: Vec<Entry>,
-    pub(crate) ahead: u64,
 }
 
 // Returns the entry at this place of a queue.
@@ -118,7 +113,6 @@ pub(crate) fn search_on<V: View>(
 {
     let mut head = 0;
     while goes_on(reach, head, goal) {
-        reach.ahead = read_ahead(view, nodes, reach.queue.as_slice(), head);
         expand(view, nodes, reach, head)?;
         head += 1;
     }
@@ -132,45 +126,6 @@ fn goes_on(reach: &Reach, head: usize, goal: Option<usize>) -> bool
         → HasEnded reach.now.seen.items reach.now.queue.items head goal }
 {
     head < reach.queue.len() && !is_found(reach.seen.as_slice(), goal)
-}
-
-// Reads the next objects that were found, once for sixteen of them: none of these reads waits for another, as those of a search
-// that looks at one object after another do. The nodes must be the view's. Returns some bits of them.
-fn read_ahead<V: View>(view: &V, nodes: &NodeList, queue: &[Entry], head: usize) -> u64
-    requires { AreNodes (V.image view.now) (V.places view.now) nodes.now }
-{
-    if head % AHEAD != 0 {
-        return 0;
-    }
-    let end = head.saturating_add(AHEAD).min(queue.len());
-    let mut bits = 0;
-    for k in head..end {
-        bits = bits ^ id_ahead(nodes, queue[k].node as usize);
-    }
-    for k in head..end {
-        bits = bits ^ word_ahead(view, nodes, queue[k].node as usize);
-    }
-    bits
-}
-
-// Returns the id of a node, or 0 if there is no such node.
-fn id_ahead(nodes: &NodeList, node: usize) -> u64 {
-    if node < nodes.len() {
-        nodes.id(node)
-    } else {
-        0
-    }
-}
-
-// Returns the first word of a node's object, or 0 if there is none. The nodes must be the view's.
-fn word_ahead<V: View>(view: &V, nodes: &NodeList, node: usize) -> u64
-    requires { AreNodes (V.image view.now) (V.places view.now) nodes.now }
-{
-    if node >= nodes.len() {
-        return 0;
-    }
-    let words = view.words(nodes.place(node));
-    if words.len() > 0 { words[0] } else { 0 }
 }
 
 // Finds what the slots of an object name that was found. Fails with NoMemory.
@@ -211,11 +166,7 @@ pub(crate) fn nothing_found(alloc: Global, nodes: &NodeList) -> Result<Reach, Re
 {
     let seen = vec![in alloc; false; nodes.len()]?;
     let queue = Vec::with_capacity(alloc, nodes.len())?;
-    Ok(Reach {
-        seen,
-        queue,
-        ahead: 0,
-    })
+    Ok(Reach { seen, queue })
 }
 
 // Adds an object to what was found, unless it was found before or there is none with this id. Fails with NoMemory.

@@ -1,6 +1,5 @@
 //! The answers of `histogram`, `garbage` and `retained`.
 ghost use Rattle.std.specs.Prelude.{◌≡◌, ◌<◌, ◌+◌, ◌^◌, All, length, flat_map};
-ghost use Rattle.heap_class.specs.declared.Refusal.TheVariants.{NoMemory};
 ghost use Rattle.heap_questions.specs.Histogram.{class_rows};
 ghost use Rattle.question_words.specs.Appends.{Appends, ReturnsText};
 ghost use Rattle.question_rows.specs.Histograms.{IsGarbageText, IsHistogramText, IsRetainedCount, IsRetainedText, IsRowsText, and_counts, row_text, sum_of, total_text};

@@ -1,6 +1,5 @@
 //! The answer of `objects`.
 ghost use Rattle.std.specs.Prelude.{All, flat_map};
-ghost use Rattle.heap_class.specs.declared.Refusal.TheVariants.{NoMemory};
 ghost use Rattle.question_words.specs.Appends.{Appends, ReturnsText};
 ghost use Rattle.question_words.specs.Moments.{IsToldOf, told_text};
 ghost use Rattle.question_rows.specs.ObjectLists.{AreObjectsTold, IsListedThere, IsObjectsText, listed_text, unreached_words};

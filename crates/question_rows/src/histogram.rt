@@ -111,7 +111,7 @@ pub fn histogram_text<V: View>(alloc: Global, view: &V) -> Result<Vec<u8>, Refus
     rows_text(alloc, &classes, &histogram)
 }
 
-/// Returns the answer of `garbage` about a view. Fails with NoMemory if an allocation fails. Reads each object at most twice.
+/// Returns the answer of `garbage` about a view. Fails with NoMemory if an allocation fails. Reads each object at most three times.
 pub fn garbage_text<V: View>(alloc: Global, view: &V) -> Result<Vec<u8>, Refusal>
     ensures { ReturnsText (IsGarbageText (V.ids view.now) (V.image view.now)) result }
 {

@@ -13,7 +13,7 @@ use question_words::{
 use std::alloc::{AllocError, Global};
 
 /// Returns the answer of `objects` about a view. Fails with NoClass if the class isn't there, with BadSlot if its objects have no
-/// such slot, and with NoMemory if an allocation fails. Reads each object at most twice.
+/// such slot, and with NoMemory if an allocation fails. Reads each object at most three times.
 pub fn objects_answer<V: View>(
     alloc: Global,
     view: &V,

@@ -22,20 +22,13 @@ pub struct LineInlet<'a, F: Read + Drop, R> {
     given: Given,
 }
 
-// Copies bytes to the front of a room, up to the first LF, the last byte or the end of the room. Returns how many.
-fn copy_line(bytes: &[u8], room: &mut [u8]) -> usize
-    requires { (0 < length bytes.now) × (0 < length room.old) }
-    ensures count { (0 < result) × (result ≤ length room.old) × (result ≤ length bytes.now) }
-    ensures copied { take result room.new ≡ take result bytes.now }
-    ensures room { length room.new ≡ length room.old }
+// Keeps what a read gave, if there is memory for it.
+fn keep_read<R>(reports: &mut LineReports<'_, R>, line: &mut Vec<u8>, room: &[u8], took: Take)
+    requires { IsLineGiven room.now took }
 {
-    let line = match bytes.iter().position(|byte| *byte == LINE_END) {
-        Some(end) => end + 1,
-        None => bytes.len(),
-    };
-    let count = line.min(room.len());
-    room[..count].copy_from_slice(&bytes[..count]);
-    count
+    if let Take::Got(n) = took {
+        keep(reports, line, &room[..n]);
+    }
 }
 
 impl<'a, F: Read + Drop, R> LineInlet<'a, F, R> {
@@ -76,15 +69,6 @@ fn keep<R>(reports: &mut LineReports<'_, R>, line: &mut Vec<u8>, part: &[u8]) {
     }
 }
 
-// Keeps what a read gave, if there is memory for it.
-fn keep_read<R>(reports: &mut LineReports<'_, R>, line: &mut Vec<u8>, room: &[u8], took: Take)
-    requires { IsLineGiven room.now took }
-{
-    if let Take::Got(n) = took {
-        keep(reports, line, &room[..n]);
-    }
-}
-
 // Reads at most a line to the front of a room.
 fn read_line<F: Read + Drop>(reader: &mut BufReader<F>, room: &mut [u8]) -> Take
     requires { 0 < length room.old }
@@ -98,6 +82,22 @@ fn read_line<F: Read + Drop>(reader: &mut BufReader<F>, room: &mut [u8]) -> Take
     };
     reader.consume(count);
     Take::Got(count)
+}
+
+// Copies bytes to the front of a room, up to the first LF, the last byte or the end of the room. Returns how many.
+fn copy_line(bytes: &[u8], room: &mut [u8]) -> usize
+    requires { (0 < length bytes.now) × (0 < length room.old) }
+    ensures count { (0 < result) × (result ≤ length room.old) × (result ≤ length bytes.now) }
+    ensures copied { take result room.new ≡ take result bytes.now }
+    ensures room { length room.new ≡ length room.old }
+{
+    let line = match bytes.iter().position(|byte| *byte == LINE_END) {
+        Some(end) => end + 1,
+        None => bytes.len(),
+    };
+    let count = line.min(room.len());
+    room[..count].copy_from_slice(&bytes[..count]);
+    count
 }
 
 impl<F: Read + Drop, R: Clock + Eprint> Inlet for LineInlet<'_, F, R> {

@@ -25,5 +25,6 @@ pub mod Walkable
 pub mod RecordWalks
 pub mod PinViews
 pub mod SlotTables
+pub mod NumberPages
 pub mod KeptSteps
 pub mod FirstCells

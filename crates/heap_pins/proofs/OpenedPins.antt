@@ -11,16 +11,12 @@ use Rattle.heap_pins.specs.States.{cell_states}
 use Rattle.heap_pins.proofs.CellStates.{free_cell_is_kept}
 use Rattle.heap_pins.proofs.Classes.{take_of_whole_list}
 use Rattle.heap_pins.proofs.CoveringCopies.{same_copy_covers}
+use Rattle.heap_pins.proofs.SlotTables.{zero_in_zeros}
 
 opened_pin_has_no_copy : (n r : ℕ) → slice_index_or (replicate {A = Option Frozen} n None) r None ≡ None
 opened_pin_has_no_copy zero r = refl
 opened_pin_has_no_copy (suc n) zero = refl
 opened_pin_has_no_copy (suc n) (suc r) = opened_pin_has_no_copy n r
-
-zero_in_zeros : (n c : ℕ) → get_or {A = ℕ} (replicate n 0) c 0 ≡ 0
-zero_in_zeros zero c = refl
-zero_in_zeros (suc n) zero = refl
-zero_in_zeros (suc n) (suc c) = zero_in_zeros n c
 
 pub zero_in_blank : (c : ℕ) → get_or blank c 0 ≡ 0
 unfolding blank

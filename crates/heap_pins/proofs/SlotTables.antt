@@ -16,7 +16,7 @@ use Rattle.heap_pins.specs.Slots.{AreRevived, AreSlots, IsItemRevived, IsSlotFor
 
 -- ---- how many numbers are used
 
-used_number_counts : (slots : List ℕ) (r x : ℕ) → r < length slots → get_or slots r 0 ≡ 0 → count_used (set slots r (suc x)) ≡ suc (count_used slots)
+pub used_number_counts : (slots : List ℕ) (r x : ℕ) → r < length slots → get_or slots r 0 ≡ 0 → count_used (set slots r (suc x)) ≡ suc (count_used slots)
 unfolding count_used
 used_number_counts [] r x lt e = absurd (omega (arith, lt))
 used_number_counts (zero ∷ slots) zero x lt e = refl
@@ -24,13 +24,13 @@ used_number_counts (suc y ∷ slots) zero x lt e = absurd (omega (arith, e))
 used_number_counts (zero ∷ slots) (suc r) x lt e = used_number_counts slots r x (omega (arith, lt)) e
 used_number_counts (suc y ∷ slots) (suc r) x lt e = ap suc (used_number_counts slots r x (omega (arith, lt)) e)
 
-used_numbers_are_few : (slots : List ℕ) → count_used slots ≤ length slots
+pub used_numbers_are_few : (slots : List ℕ) → count_used slots ≤ length slots
 unfolding count_used
 used_numbers_are_few [] = omega arith
 used_numbers_are_few (zero ∷ slots) = omega (arith, used_numbers_are_few slots)
 used_numbers_are_few (suc y ∷ slots) = omega (arith, used_numbers_are_few slots)
 
-zeros_are_not_used : (n : ℕ) → count_used (replicate n 0) ≡ 0
+pub zeros_are_not_used : (n : ℕ) → count_used (replicate n 0) ≡ 0
 unfolding count_used
 zeros_are_not_used zero = refl
 zeros_are_not_used (suc n) = zeros_are_not_used n
@@ -198,6 +198,11 @@ unseen_change_shows_nothing g slots kept room r i y x t lt e there is same =
 
 -- ---- the start
 
+pub zero_in_zeros : (n c : ℕ) → get_or {A = ℕ} (replicate n 0) c 0 ≡ 0
+zero_in_zeros zero c = refl
+zero_in_zeros (suc n) zero = refl
+zero_in_zeros (suc n) (suc c) = zero_in_zeros n c
+
 pub no_slots_are_slots : (n room : ℕ) → n ≤ 65536 → n ≤ room → AreSlots (replicate n 0) [] room
 no_slots_are_slots n room few fits = record {
   few = omega (arith, few, length-replicate {A = ℕ} n 0);
@@ -206,11 +211,6 @@ no_slots_are_slots n room few fits = record {
   within = λ r. omega (arith, zero_in_zeros n r);
   apart = λ q r same. inl (zero_in_zeros n r);
 }
-  where
-    zero_in_zeros : (n c : ℕ) → get_or {A = ℕ} (replicate n 0) c 0 ≡ 0
-    zero_in_zeros zero c = refl
-    zero_in_zeros (suc n) zero = refl
-    zero_in_zeros (suc n) (suc c) = zero_in_zeros n c
 
 seen_in_nothing : {T : Type 0} (g : Option KeptRegion → T) (n : ℕ) → seen_by g [] (replicate n 0) ≡ replicate n (g None)
 unfolding item_at

@@ -3,6 +3,7 @@ pub mod Images
 pub mod Pin
 pub mod KeptRegions
 pub mod Slots
+pub mod Numbers
 pub mod KeptCopies
 pub mod Laws
 pub mod Shows

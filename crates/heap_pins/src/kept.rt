@@ -6,6 +6,7 @@ ghost use Rattle.heap_region.specs.Limits.{cell_limit, region_limit};
 ghost use Rattle.heap_pins.specs.KeptRegions.{IsKeptOf, IsRevivedTable, blank, nothing_kept};
 ghost use Rattle.heap_pins.specs.Slots.{AreRevived, AreSlots, IsByteRevived, IsItemRevived, IsSlotFor};
 
+use crate::numbers::RegionNumbers;
 use heap_class::Refusal;
 use heap_region::FrozenRegion;
 use std::alloc::Global;
@@ -25,7 +26,7 @@ pub(crate) struct KeptRegions {
     // For each region whether there is a copy of it.
     copied: Vec<bool>,
     // For each region one more than the index of what is kept of it, or 0 if nothing is.
-    slots: Vec<u32>,
+    slots: RegionNumbers,
     kept: Vec<KeptRegion>,
 }
 
@@ -39,11 +40,11 @@ impl Model for KeptRegions {
 
     ghost view = { λ t.
         record {
-          copies = map (copy_in t.kept.items) t.slots.items;
-          cells = map (bytes_in t.kept.items) t.slots.items;
+          copies = map (copy_in t.kept.items) t.slots;
+          cells = map (bytes_in t.kept.items) t.slots;
         } };
 
-    ghost invariant = { λ t. IsTable t.copied.items t.slots.items t.kept.items
+    ghost invariant = { λ t. IsTable t.copied.items t.slots t.kept.items
         (vec_capacity t.kept) };
 }
 
@@ -55,7 +56,7 @@ impl KeptRegions {
         ensures refused { IfErr result (λ e. e ≡ NoMemory) }
     {
         let copied = vec![in alloc; false; count as usize]?;
-        let slots = vec![in alloc; 0; count as usize]?;
+        let slots = RegionNumbers::new(alloc, count)?;
         let kept = Vec::with_capacity(alloc, count as usize)?;
         Ok(KeptRegions {
             copied,
@@ -80,7 +81,7 @@ impl KeptRegions {
         ensures { MatchOption result (slice_index_or self.now.copies region None ≡ None)
             (λ copy. slice_index_or self.now.copies region None ≡ Some copy.now) }
     {
-        match self.slots[region as usize] {
+        match self.slots.get(region) {
             0 => None,
             slot => match &self.kept[slot as usize - 1].copy {
                 Some(copy) => Some(copy),
@@ -96,7 +97,7 @@ impl KeptRegions {
         ensures { MatchOption result (slice_index_or self.now.cells region [] ≡ blank)
             (λ bytes. slice_index_or self.now.cells region [] ≡ bytes.now) }
     {
-        match self.slots[region as usize] {
+        match self.slots.get(region) {
             0 => None,
             slot => Some(&self.kept[slot as usize - 1].cells),
         }
@@ -108,7 +109,7 @@ impl KeptRegions {
         requires { region < length self.now.copies }
         ensures { IsKeptOf result self.now region }
     {
-        self.slots[region as usize] != 0
+        self.slots.get(region) != 0
     }
 
     // Writes the byte of a cell. Takes no memory.
@@ -121,7 +122,7 @@ impl KeptRegions {
               (slice_set (slice_index_or self.old.cells region []) cell byte);
         } }
     {
-        let slot = slot_for(&mut self.slots, &mut self.kept, region as usize);
+        let slot = slot_for(&mut self.slots, &mut self.kept, region);
         self.kept[slot].cells[cell as usize] = byte;
     }
 
@@ -130,7 +131,7 @@ impl KeptRegions {
         requires { region < length self.old.copies }
         ensures { self.new ≡ record self.old { cells = slice_set self.old.cells region bytes.now } }
     {
-        let slot = slot_for(&mut self.slots, &mut self.kept, region as usize);
+        let slot = slot_for(&mut self.slots, &mut self.kept, region);
         self.kept[slot].cells = *bytes;
     }
 
@@ -153,7 +154,7 @@ impl KeptRegions {
           copies = slice_set self.old.copies region (Some copy);
         } }
     {
-        let slot = slot_for(&mut self.slots, &mut self.kept, region as usize);
+        let slot = slot_for(&mut self.slots, &mut self.kept, region);
         let _old = self.kept[slot].copy.replace(copy);
         self.copied[region as usize] = true;
     }
@@ -166,7 +167,7 @@ impl KeptRegions {
           copies = slice_set self.old.copies region None;
         } }
     {
-        match self.slots[region as usize] {
+        match self.slots.get(region) {
             0 => None,
             slot => {
                 let taken = self.kept[slot as usize - 1].copy.take();
@@ -186,14 +187,14 @@ impl KeptRegions {
 
 // Returns the index of what is kept of a region, once there is an item for it. Takes no memory.
 #[inline(always)]
-fn slot_for(slots: &mut Vec<u32>, kept: &mut Vec<KeptRegion>, region: usize) -> usize
-    requires table { AreSlots slots.old.items kept.old.items (vec_capacity kept.old) }
-    requires region { region < length slots.old.items }
-    ensures table { AreSlots slots.new.items kept.new.items (vec_capacity kept.new) }
-    ensures slot { IsSlotFor slots.old.items kept.old.items slots.new.items kept.new.items region
+fn slot_for(slots: &mut RegionNumbers, kept: &mut Vec<KeptRegion>, region: u64) -> usize
+    requires table { AreSlots slots.old kept.old.items (vec_capacity kept.old) }
+    requires region { region < length slots.old }
+    ensures table { AreSlots slots.new kept.new.items (vec_capacity kept.new) }
+    ensures slot { IsSlotFor slots.old kept.old.items slots.new kept.new.items region
         result }
 {
-    match slots[region] {
+    match slots.get(region) {
         0 => add_item(slots, kept, region),
         slot => slot as usize - 1,
     }
@@ -201,12 +202,12 @@ fn slot_for(slots: &mut Vec<u32>, kept: &mut Vec<KeptRegion>, region: usize) -> 
 
 // Adds an item for a region that has none, and returns its index. Takes no memory.
 #[inline(never)]
-fn add_item(slots: &mut Vec<u32>, kept: &mut Vec<KeptRegion>, region: usize) -> usize
-    requires table { AreSlots slots.old.items kept.old.items (vec_capacity kept.old) }
-    requires region { region < length slots.old.items }
-    requires none { slice_index_or slots.old.items region 0 ≡ 0 }
-    ensures table { AreSlots slots.new.items kept.new.items (vec_capacity kept.new) }
-    ensures slot { IsSlotFor slots.old.items kept.old.items slots.new.items kept.new.items region
+fn add_item(slots: &mut RegionNumbers, kept: &mut Vec<KeptRegion>, region: u64) -> usize
+    requires table { AreSlots slots.old kept.old.items (vec_capacity kept.old) }
+    requires region { region < length slots.old }
+    requires none { slice_index_or slots.old region 0 ≡ 0 }
+    ensures table { AreSlots slots.new kept.new.items (vec_capacity kept.new) }
+    ensures slot { IsSlotFor slots.old kept.old.items slots.new kept.new.items region
         result }
 {
     let slot = kept.len();
@@ -214,7 +215,7 @@ fn add_item(slots: &mut Vec<u32>, kept: &mut Vec<KeptRegion>, region: usize) -> 
         copy: None,
         cells: blank(),
     });
-    slots[region] = slot as u32 + 1;
+    slots.set(region, slot as u32 + 1);
     slot
 }
 

@@ -10,6 +10,7 @@ ghost use Rattle.heap_pins.specs.Laws.{KeepsOthers, EventKeeps, EventExtends, Is
 
 mod cells;
 mod kept;
+mod numbers;
 mod pin;
 mod reads;
 mod view;

@@ -1,11 +1,11 @@
 -- The distances of all objects, node by node, and the nearest start, slot by slot.
-use Rattle.std.proofs.Common.{◌≡◌, ◌≢◌, ◌⊎◌, ℕ, ◌+◌, ◌*◌, ◌/◌, ◌%◌, ◌<◌, ◌≤◌, Bool, true, false, List, length, get_or, Option, Some, None, refl, sym, ap, ◌∙◌, subst, inl, inr, arith}
-use Rattle.std.specs.Prelude.{IsSome, min, option_and_then, slice_get, slice_index_or}
+use Rattle.std.proofs.Common.{◌≡◌, ◌≢◌, ◌⊎◌, ℕ, ◌+◌, ◌*◌, ◌/◌, ◌%◌, ◌<◌, ◌≤◌, Bool, true, false, List, [], length, get_or, take, Option, Some, None, refl, sym, ap, ◌∙◌, map, subst, inl, inr, arith}
+use Rattle.std.specs.Prelude.{find, min, not, option_and_then, slice_get, slice_index_or}
 use Rattle.std.specs.List.{list_any}
 use Rattle.std.specs.Option.{option_map_or}
 use Rattle.std.proofs.Math.Nat.{min-eq_left, min-eq_right}
 use Rattle.std.proofs.lemmas.Bool.{cases_Bool, cases_lt, true≢false}
-use Rattle.std.proofs.lemmas.List.{get_or_default}
+use Rattle.std.proofs.lemmas.List.{get_or_default, length-map}
 use Rattle.std.proofs.lemmas.Nat.{div-mul-add, mod-mul-add}
 use Rattle.std.proofs.lemmas.Option.{get_or_from_slice_get, none-some, slice_get_within}
 use Rattle.heap_class.specs.declared.ObjRef.{ObjRef}
@@ -13,21 +13,22 @@ use Rattle.heap_class.specs.Classes.{Class}
 use Rattle.heap_class.specs.Limits.{large_array_limit}
 use Rattle.hprof_text.specs.Image.{DumpedObject, Image, IsDumpable, IsKnown}
 use Rattle.heap_questions.specs.Differences.{IsKnownIf}
-use Rattle.heap_questions.specs.Distances.{AreDistances, HasNearer, IsFirstNearer, IsFit, IsFitNode, IsLeastOf, IsNamedBy, IsNearestOf, distance_by, distance_of, far, least_before}
+use Rattle.heap_questions.specs.Distances.{AreDistances, HasNearer, IsFirstNearer, IsFit, IsFitNode, IsLeastOf, IsNamedBy, IsNearestOf, AreNearest, AreNearestFor, IsNearerStart, IsNearStart, distance_by, distance_of, far, with_start}
 use Rattle.heap_questions.specs.Graph.{HasId, named, object_with, slot_names, slot_refers}
-use Rattle.heap_questions.specs.PathsApart.{Route}
+use Rattle.heap_questions.specs.PathsApart.{Route, route_of}
 use Rattle.heap_questions.specs.Search.{AreNodes, node_with, slot_span}
 use Rattle.heap_questions.specs.Starts.{starts_by, with_starts}
 use Rattle.heap_questions.specs.declared.nearest.Start.{Start}
 use Rattle.heap_questions.specs.declared.nodes.Node.{Node}
 use Rattle.heap_questions.specs.declared.paths.Hop.{Hop}
+use Rattle.heap_questions.specs.declared.paths.Path.{Path}
 use Rattle.heap_questions.proofs.DifferentObjects.{found_object_is_known}
 use Rattle.heap_questions.proofs.LongerLists.{got_same}
 use Rattle.heap_questions.proofs.Looking.{named_is, slot_is, slot_is_none, slot_within}
 use Rattle.heap_questions.proofs.NodePlaces.{node_of_object, node_within, object_found}
-use Rattle.heap_questions.proofs.ShortestWays.{nearest_here, nearest_past, nearest_stays, small_before}
-use Rattle.heap_questions.proofs.StartSearch.{no_slot_start, used_start}
-use Rattle.heap_questions.proofs.Starting.{IsStart, no_start, object_at, place_with, start_found, start_is, start_word}
+use Rattle.heap_questions.proofs.NearestStarts.{as_many_paths, first_passes, is_used, nearest_more, nearest_past, none_passes, one_of_all}
+use Rattle.heap_questions.proofs.PathStarts.{any_route}
+use Rattle.heap_questions.proofs.Starting.{IsStart, no_start, object_at, place_with, start_found, start_is, start_word, starts_many}
 use Rattle.heap_questions.proofs.TracedPaths.{named_object}
 
 -- ---- objects
@@ -207,53 +208,149 @@ start_near image places nodes table earlier r s z are small e near =
     subst (λ q. IsStart image earlier q s z) (div-mul-add r slot_span s small)
     (subst (λ k. IsStart image earlier ((r * slot_span + s) / slot_span) k z) (mod-mul-add r slot_span s small) (start_found image earlier (r * slot_span + s) z e (near_object image places nodes table z are near)))
 
+-- the starts of the first path
+abbrev first_starts : Image → List ℕ
+first_starts image = (with_starts image []).registers
+
 -- the start by a slot, by what the slot names
-pub start_step : (image : Image) (places : List ObjRef) (nodes : List Node) (table : List ℕ) (earlier : List Route) (classes : List Class) (r s z distance : ℕ) (o : DumpedObject) → AreNodes image places nodes → s < slot_span → IsNamedBy image r o → classes ≡ image.classes → distance ≡ distance_of (distance_by nodes table) (slot_names classes o s)
-    → slice_get (with_starts image earlier).registers (r * slot_span + s) ≡ Some z → distance_by nodes table z < far → (distance ≡ distance_by nodes table z) × (list_any (starts_by r s) earlier ≡ false)
-start_step image places nodes table earlier classes r s z distance o are small by same told e near =
-    let d = distance_by nodes table in
-    let is = start_near image places nodes table earlier r s z are small e near in
+start_step : (image : Image) (places : List ObjRef) (nodes : List Node) (table : List ℕ) (classes : List Class) (r s z distance : ℕ) (o : DumpedObject) → AreNodes image places nodes → s < slot_span → IsNamedBy image r o → classes ≡ image.classes → distance ≡ distance_of (distance_by nodes table) (slot_names classes o s)
+    → slice_get (first_starts image) (r * slot_span + s) ≡ Some z → distance_by nodes table z < far → distance ≡ distance_by nodes table z
+start_step image places nodes table classes r s z distance o are small by same told e near =
+    let is = start_near image places nodes table [] r s z are small e near in
     let first : is.first ≡ by.0 = got_same image.registers r is.first by.0 is.names by.1 in
     let names : slot_names classes o s ≡ Some z = ap (λ cs. slot_names cs o s) same ∙ sym (named_is image by.0 s o by.2) ∙ ap (λ y. named image y s) (sym first) ∙ is.leads in
-    (told ∙ ap (distance_of d) names, is.free)
+    told ∙ ap (distance_of (distance_by nodes table)) names
 
--- it takes the place of the nearest before it
-pub start_here : (image : Image) (nodes : List Node) (table : List ℕ) (earlier : List Route) (classes : List Class) (r s distance : ℕ) (o : DumpedObject) (best : Option Start) (new : Start) → s < slot_span → s < length o.words → IsNamedBy image r o → classes ≡ image.classes → distance ≡ distance_of (distance_by nodes table) (slot_names classes o s)
-    → distance < least_before best → list_any (starts_by r s) earlier ≡ false → new.number ≡ r * slot_span + s → new.id ≡ get_or o.words s 0 → new.distance ≡ distance → IsNearestOf (distance_by nodes table) (with_starts image earlier).registers (r * slot_span + s) best
-    → IsNearestOf (distance_by nodes table) (with_starts image earlier).registers (r * slot_span + s + 1) (Some new)
-start_here image nodes table earlier classes r s distance o best new small within by same told less free at id is b =
+-- it is put among the nearest
+pub start_here : (image : Image) (nodes : List Node) (table : List ℕ) (classes : List Class) (r s most distance : ℕ) (o : DumpedObject) (starts : List Start) (new : Start) → s < slot_span → s < length o.words → IsNamedBy image r o → classes ≡ image.classes → distance ≡ distance_of (distance_by nodes table) (slot_names classes o s)
+    → distance < far → new.number ≡ r * slot_span + s → new.id ≡ get_or o.words s 0 → new.distance ≡ distance → AreNearest (distance_by nodes table) (first_starts image) (r * slot_span + s) most starts
+    → AreNearest (distance_by nodes table) (first_starts image) (r * slot_span + s + 1) most (take most (with_start new starts))
+start_here image nodes table classes r s most distance o starts new small within by same told less at id is b =
     let d = distance_by nodes table in
-    let before = small_before d (with_starts image earlier).registers (r * slot_span + s) best b in
-    let near : distance_of d (slot_names classes o s) < far = omega (arith, before, less, told) in
+    let near : distance_of d (slot_names classes o s) < far = omega (arith, less, told) in
     let word = named_word d classes o s within near in
     let leads : named image by.0 s ≡ Some new.id = named_is image by.0 s o by.2 ∙ ap (λ cs. slot_names cs o s) (sym same) ∙ word ∙ ap Some (sym id) in
     let there = slice_get_within image.registers r by.0 by.1 in
-    nearest_here d (with_starts image earlier).registers (r * slot_span + s) best new b at
-    (start_word image earlier r s new.id small there (start_is image earlier r s by.0 new.id free by.1 leads))
-    (ap d id ∙ sym (told ∙ ap (distance_of d) word) ∙ sym is)
-    (omega (arith, is, less))
+    let word_at = start_word image [] r s new.id small there (start_is image [] r s by.0 new.id refl by.1 leads) in
+    nearest_more d (first_starts image) (r * slot_span + s) most new starts at
+    (record {
+      below = omega (arith, at);
+      names = ap (slice_get (first_starts image)) at ∙ word_at;
+      told = ap d id ∙ sym (told ∙ ap (distance_of d) word) ∙ sym is;
+      near = omega (arith, is, less);
+    }) b
 
--- or it doesn't
-pub start_stays : (image : Image) (places : List ObjRef) (nodes : List Node) (table : List ℕ) (earlier : List Route) (classes : List Class) (r s distance : ℕ) (o : DumpedObject) (best : Option Start) → AreNodes image places nodes → s < slot_span → IsNamedBy image r o → classes ≡ image.classes → distance ≡ distance_of (distance_by nodes table) (slot_names classes o s)
-    → (least_before best ≤ distance) ⊎ (list_any (starts_by r s) earlier ≡ true) → IsNearestOf (distance_by nodes table) (with_starts image earlier).registers (r * slot_span + s) best → IsNearestOf (distance_by nodes table) (with_starts image earlier).registers (r * slot_span + s + 1) best
-start_stays image places nodes table earlier classes r s distance o best are small by same told why b =
-    nearest_stays (distance_by nodes table) (with_starts image earlier).registers (r * slot_span + s) best b (λ z e near.
-    let t = start_step image places nodes table earlier classes r s z distance o are small by same told e near in
-    elim why [
-      | inl less ↦ let is = t.0 in omega (arith, less, is)
-      | inr used ↦ absurd (true≢false (sym used ∙ t.1))
-    ])
+-- or it names nothing near
+pub start_far : (image : Image) (places : List ObjRef) (nodes : List Node) (table : List ℕ) (classes : List Class) (r s most distance : ℕ) (o : DumpedObject) (starts : List Start) → AreNodes image places nodes → s < slot_span → IsNamedBy image r o → classes ≡ image.classes → distance ≡ distance_of (distance_by nodes table) (slot_names classes o s)
+    → distance ≡ far → AreNearest (distance_by nodes table) (first_starts image) (r * slot_span + s) most starts → AreNearest (distance_by nodes table) (first_starts image) (r * slot_span + s + 1) most starts
+start_far image places nodes table classes r s most distance o starts are small by same told past b =
+    let d = distance_by nodes table in
+    nearest_past d (first_starts image) (r * slot_span + s) (r * slot_span + s + 1) most starts (omega arith)
+    (λ q z above below e. elim (cases_lt (d z) far) [
+      | inl near ↦
+          let at : q ≡ r * slot_span + s = omega (arith, above, below) in
+          let is = start_step image places nodes table classes r s z distance o are small by same told (ap (slice_get (first_starts image)) (sym at) ∙ e) near in
+          absurd (omega (arith, is, past, near))
+      | inr ge ↦ ge
+    ]) b
 
 -- numbers at which nothing starts
-pub starts_past : (image : Image) (places : List ObjRef) (nodes : List Node) (table : List ℕ) (earlier : List Route) (r low high : ℕ) (best : Option Start) → AreNodes image places nodes → low ≤ high → high ≤ slot_span → ((s y : ℕ) → low ≤ s → s < high → ¬ IsStart image earlier r s y)
-    → IsNearestOf (distance_by nodes table) (with_starts image earlier).registers (r * slot_span + low) best → IsNearestOf (distance_by nodes table) (with_starts image earlier).registers (r * slot_span + high) best
-starts_past image places nodes table earlier r low high best are le few none b =
+pub starts_past : (image : Image) (places : List ObjRef) (nodes : List Node) (table : List ℕ) (r low high most : ℕ) (starts : List Start) → AreNodes image places nodes → low ≤ high → high ≤ slot_span → ((s y : ℕ) → low ≤ s → s < high → ¬ IsStart image [] r s y)
+    → AreNearest (distance_by nodes table) (first_starts image) (r * slot_span + low) most starts → AreNearest (distance_by nodes table) (first_starts image) (r * slot_span + high) most starts
+starts_past image places nodes table r low high most starts are le few none b =
     let d = distance_by nodes table in
-    nearest_past d (with_starts image earlier).registers (r * slot_span + low) (r * slot_span + high) best (omega (arith, le))
+    nearest_past d (first_starts image) (r * slot_span + low) (r * slot_span + high) most starts (omega (arith, le))
     (λ q z above below e. elim (cases_lt (d z) far) [
-      | inl near ↦ absurd (no_start image earlier r low high few none q z above below e (near_object image places nodes table z are near))
+      | inl near ↦ absurd (no_start image [] r low high few none q z above below e (near_object image places nodes table z are near))
       | inr past ↦ past
     ]) b
+
+-- ---- the next start
+
+-- what starts with these earlier paths starts with others, unless one of them starts so
+start_among : (image : Image) (places : List ObjRef) (nodes : List Node) (table : List ℕ) (earlier others : List Route) (q z : ℕ) → AreNodes image places nodes → slice_get (with_starts image earlier).registers q ≡ Some z → distance_by nodes table z < far → list_any (starts_by (q / slot_span) (q % slot_span)) others ≡ false
+    → (slice_get (with_starts image others).registers q ≡ Some z) × (list_any (starts_by (q / slot_span) (q % slot_span)) earlier ≡ false)
+start_among image places nodes table earlier others q z are e near free =
+    let is = start_found image earlier q z e (near_object image places nodes table z are near) in
+    let r : ℕ = q / slot_span in
+    let s : ℕ = q % slot_span in
+    let small : s < slot_span = omega arith in
+    let at : r * slot_span + s ≡ q = omega arith in
+    let word = start_word image others r s z small (slice_get_within image.registers r is.first is.names) (start_is image others r s is.first z free is.names is.leads) in
+    (ap (slice_get (with_starts image others).registers) (sym at) ∙ word, is.free)
+
+next_start : (image : Image) (places : List ObjRef) (nodes : List Node) (table : List ℕ) (earlier : List Route) (starts : List Start) (r : Option Start) → AreNodes image places nodes → AreNearestFor (distance_by nodes table) (first_starts image) (length earlier) starts → r ≡ find (λ b. not (is_used earlier b)) starts
+    → IsNearestOf (distance_by nodes table) (with_starts image earlier).registers (length (with_starts image earlier).registers) r
+next_start image places nodes table earlier starts r are nearest is = go r (sym is)
+  where
+    d : ℕ → ℕ
+    d = distance_by nodes table
+
+    others : List ℕ
+    others = (with_starts image earlier).registers
+
+    test : Start → Bool
+    test b = not (is_used earlier b)
+
+    among : AreNearest d (first_starts image) (length (first_starts image)) nearest.0 starts
+    among = nearest.2
+
+    many : length others ≡ length (first_starts image)
+    many = starts_many image earlier ∙ sym (starts_many image [])
+
+    -- a start that isn't used
+    start_with : (q z : ℕ) → slice_get others q ≡ Some z → d z < far → IsNearStart d (first_starts image) (length (first_starts image)) (record { number = q; id = z; distance = d z }) × (is_used earlier (record { number = q; id = z; distance = d z }) ≡ false)
+    start_with q z e near =
+        let a = start_among image places nodes table earlier [] q z are e near refl in
+        (record { below = slice_get_within (first_starts image) q z a.0; names = a.0; told = refl; near = near }, a.1)
+
+    go : (r : Option Start) → find test starts ≡ r → IsNearestOf d others (length others) r
+    go None e = λ q z l m. elim (cases_lt (d z) far) [
+      | inr past ↦ past
+      | inl near ↦
+          let c = start_with q z m near in
+          let b : Start = record { number = q; id = z; distance = d z } in
+          elim (among.rest b c.0) [
+            | inl stands ↦ absurd (true≢false (sym (ap not c.1) ∙ none_passes test b starts e stands))
+            | inr full ↦
+                let paths = as_many_paths d (first_starts image) (length (first_starts image)) earlier starts among.each among.ordered (λ x s. used x (none_passes test x starts e s)) in
+                absurd (let fewer = nearest.1 in let long = full.0 in omega (arith, paths, fewer, long))
+          ]
+    ]
+      where
+        used : (x : Start) → not (is_used earlier x) ≡ false → is_used earlier x ≡ true
+        used x h = elim (cases_Bool (is_used earlier x)) [ inl t ↦ t | inr f ↦ absurd (true≢false (sym (ap not f) ∙ h)) ]
+    go (Some b) e =
+        let f = first_passes test b starts among.ordered e in
+        let near = one_of_all (IsNearStart d (first_starts image) (length (first_starts image))) b starts among.each f.0 in
+        let free : is_used earlier b ≡ false = elim (cases_Bool (is_used earlier b)) [ inl t ↦ absurd (true≢false (sym f.1 ∙ ap not t)) | inr n ↦ n ] in
+        let a = start_among image places nodes table [] earlier b.number b.id are near.names (let told = near.told in let less = near.near in omega (arith, told, less)) free in (
+          slice_get_within others b.number b.id a.0,
+          a.0,
+          near.told,
+          near.near,
+          λ q z l m less.
+              let c = start_with q z m less in
+              let x : Start = record { number = q; id = z; distance = d z } in
+              elim (among.rest x c.0) [
+                | inl stands ↦ elim (f.2 x stands (ap not c.1)) [
+                  | inl same ↦ inr (ap (λ (y : Start). y.distance) same, let at : b.number ≡ q = ap (λ (y : Start). y.number) same in omega (arith, at))
+                  | inr before ↦ no_later q z before
+                ]
+                | inr full ↦ no_later q z (one_of_all (λ y. IsNearerStart y x) b starts full.1 f.0)
+              ],
+        )
+      where
+        no_later : (q z : ℕ) → IsNearerStart b (record { number = q; id = z; distance = d z }) → (b.distance < d z) ⊎ ((b.distance ≡ d z) × (b.number ≤ q))
+        no_later q z (inl l) = inl l
+        no_later q z (inr l) = inr (l.0, let less = l.1 in omega (arith, less))
+
+-- the first start by which none of these paths begins
+pub next_of_paths : (image : Image) (places : List ObjRef) (nodes : List Node) (table : List ℕ) (paths : List Path) (starts : List Start) (r : Option Start) → AreNodes image places nodes → AreNearestFor (distance_by nodes table) (first_starts image) (length paths) starts
+    → r ≡ find (λ b. not (list_any (λ p. starts_by (b.number / slot_span) (b.number % slot_span) (route_of p)) paths)) starts → IsNearestOf (distance_by nodes table) (with_starts image (map route_of paths)).registers (length (with_starts image (map route_of paths)).registers) r
+next_of_paths image places nodes table paths starts r are nearest is =
+    next_start image places nodes table (map route_of paths) starts r are (subst (λ k. AreNearestFor (distance_by nodes table) (first_starts image) k starts) (sym (length-map paths route_of)) nearest)
+    (is ∙ (λ i. find (λ (b : Start). not (any_route (starts_by (b.number / slot_span) (b.number % slot_span)) paths i)) starts))
 
 pub no_start_of_none : (image : Image) (earlier : List Route) (r x s y : ℕ) → slice_get image.registers r ≡ Some x → object_with image x ≡ None → ¬ IsStart image earlier r s y
 no_start_of_none image earlier r x s y names none is =

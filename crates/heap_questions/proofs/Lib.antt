@@ -9,8 +9,10 @@ pub mod OtherRegisters
 pub mod Halving
 pub mod ToldNodes
 pub mod Reaching
+pub mod CutObjects
 pub mod CutPaths
 pub mod Retained
+pub mod Beyond
 pub mod KeptObjects
 pub mod NamedObjects
 pub mod RankedRows
@@ -22,6 +24,7 @@ pub mod WaysBack
 pub mod Hops
 pub mod Starting
 pub mod ShortestWays
+pub mod NearestStarts
 pub mod KnownDistances
 pub mod StartSearch
 pub mod PathStarts

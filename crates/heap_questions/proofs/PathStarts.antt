@@ -27,7 +27,7 @@ any_route test [] = refl
 any_route test (p ∷ ps) = ap (λ b. test (route_of p) || b) (any_route test ps)
 
 -- the test tells which paths start like p
-abbrev Tells : (Route → Bool) → Route → Type 0
+abbrev pub Tells : (Route → Bool) → Route → Type 0
 Tells test p = (e : Route) → (StartAlike e p → test e ≡ true) × (test e ≡ true → StartAlike e p)
 
 none_alike : (test : Route → Bool) (p : Route) (earlier : List Route) → Tells test p → list_any test earlier ≡ false → AllByRecursion (λ e. ¬ StartAlike e p) earlier
@@ -44,7 +44,7 @@ not_used test p (e ∷ es) told a = elim (cases_Bool (test e)) [
   | inr f ↦ ap (λ b. b || list_any test es) f ∙ not_used test p es told a.1
 ]
 
-tells_by : (r s : ℕ) (slots : List ℕ) → Tells (starts_by r s) (record { register = r; slots = s ∷ slots })
+pub tells_by : (r s : ℕ) (slots : List ℕ) → Tells (starts_by r s) (record { register = r; slots = s ∷ slots })
 tells_by r s slots e = (
   λ a. ap (λ b. b && option_map_or (λ n. n == s) (slice_get e.slots 0) false) (eq-eqb e.register r a.0) ∙ ap (λ o. option_map_or (λ n. n == s) o false) a.1 ∙ eq-eqb s s refl,
   λ h. elim (cases_Bool (e.register == r)) [

@@ -1,11 +1,11 @@
 -- Shortest ways, by the distances of all objects.
-use Rattle.std.proofs.Common.{◌≡◌, ◌≢◌, ◌⊎◌, ℕ, suc, ◌+◌, ◌<◌, ◌≤◌, List, [], ◌∷◌, ◌++◌, length, Option, Some, None, refl, sym, ap, ◌∙◌, subst, inl, inr, arith, append_assoc}
+use Rattle.std.proofs.Common.{◌≡◌, ◌≢◌, ℕ, suc, ◌+◌, ◌<◌, ◌≤◌, List, [], ◌∷◌, ◌++◌, length, Option, Some, None, refl, sym, ap, ◌∙◌, subst, inl, inr, arith, append_assoc}
 use Rattle.std.specs.Prelude.{IsSome, option_and_then, slice_get}
 use Rattle.std.proofs.lemmas.Bool.{cases_eq, cases_lt}
 use Rattle.std.proofs.lemmas.List.{append-nil}
 use Rattle.std.proofs.lemmas.Option.{none-some, same_Some, slice_get_within}
 use Rattle.hprof_text.specs.Image.{DumpedObject, Image}
-use Rattle.heap_questions.specs.Distances.{AreDistances, GoesOnTo, HasNearer, IsFirstNearer, IsFirstWay, IsNearestOf, far, least_before}
+use Rattle.heap_questions.specs.Distances.{AreDistances, GoesOnTo, HasNearer, IsFirstNearer, IsFirstWay, IsNearestOf, far}
 use Rattle.heap_questions.specs.Graph.{AreAtMost, HasId, IsFirstPath, IsPathTo, IsShortest, IsUnreached, followed, named}
 use Rattle.heap_questions.specs.Hops.{slots_of}
 use Rattle.heap_questions.specs.Search.{with_registers}
@@ -166,70 +166,3 @@ none_near image registers d x a n r slots p =
     let least = no_shorter image d x slots l.0 a l.2 in
     let past = n r l.0 (slice_get_within registers r l.0 l.1) l.1 in
     absurd (omega (arith, least.1, past))
-
--- ---- start by start
-
-pub nearest_none : (d : ℕ → ℕ) (registers : List ℕ) → IsNearestOf d registers 0 None
-nearest_none d registers q z l e = absurd (omega (arith, l))
-
-pub small_before : (d : ℕ → ℕ) (registers : List ℕ) (n : ℕ) (best : Option Start) → IsNearestOf d registers n best → least_before best ≤ far
-small_before d registers n None b = omega arith
-small_before d registers n (Some s) b = let near = b.3 in omega (arith, near)
-
--- numbers that name nothing near are passed over
-pub nearest_past : (d : ℕ → ℕ) (registers : List ℕ) (i n : ℕ) (best : Option Start) → i ≤ n → ((q z : ℕ) → i ≤ q → q < n → slice_get registers q ≡ Some z → far ≤ d z) → IsNearestOf d registers i best → IsNearestOf d registers n best
-nearest_past d registers i n None le none b = λ q z l e. elim (cases_lt q i) [ inl lt ↦ b q z lt e | inr ge ↦ none q z ge l e ]
-nearest_past d registers i n (Some s) le none b = (
-  let before = b.0 in omega (arith, before, le),
-  b.1,
-  b.2,
-  b.3,
-  λ q z l e near. elim (cases_lt q i) [ inl lt ↦ b.4 q z lt e near | inr ge ↦ absurd (let past = none q z ge l e in omega (arith, near, past)) ],
-)
-
--- a nearer start takes the place
-pub nearest_here : (d : ℕ → ℕ) (registers : List ℕ) (i : ℕ) (best : Option Start) (new : Start) → IsNearestOf d registers i best → new.number ≡ i → slice_get registers i ≡ Some new.id → d new.id ≡ new.distance → new.distance < least_before best → IsNearestOf d registers (i + 1) (Some new)
-nearest_here d registers i best new b at names told less = (
-  omega (arith, at),
-  ap (slice_get registers) at ∙ names,
-  told,
-  let small = small_before d registers i best b in omega (arith, small, less),
-  λ q z l e near. elim (cases_lt q i) [
-    | inl lt ↦ before best b less q z lt e near
-    | inr ge ↦
-        let same : q ≡ i = omega (arith, ge, l) in
-        let to : new.id ≡ z = same_Some new.id z (sym names ∙ ap (slice_get registers) (sym same) ∙ e) in
-        inr (sym told ∙ ap d to, omega (arith, same, at))
-  ],
-)
-  where
-    before : (best : Option Start) → IsNearestOf d registers i best → new.distance < least_before best → (q z : ℕ) → q < i → slice_get registers q ≡ Some z → d z < far → (new.distance < d z) ⊎ ((new.distance ≡ d z) × (new.number ≤ q))
-    before None b less q z lt e near = absurd (let past = b q z lt e in omega (arith, near, past))
-    before (Some s) b less q z lt e near = elim (b.4 q z lt e near) [
-      | inl more ↦ inl (omega (arith, more, less))
-      | inr same ↦ inl (let d_is = same.0 in omega (arith, d_is, less))
-    ]
-
--- one that isn't nearer doesn't
-pub nearest_stays : (d : ℕ → ℕ) (registers : List ℕ) (i : ℕ) (best : Option Start) → IsNearestOf d registers i best → ((z : ℕ) → slice_get registers i ≡ Some z → d z < far → least_before best ≤ d z) → IsNearestOf d registers (i + 1) best
-nearest_stays d registers i None b none = λ q z l e. elim (cases_lt q i) [
-  | inl lt ↦ b q z lt e
-  | inr ge ↦ elim (cases_lt (d z) far) [
-    | inl near ↦ none z (ap (slice_get registers) (let same : i ≡ q = omega (arith, ge, l) in same) ∙ e) near
-    | inr past ↦ past
-  ]
-]
-nearest_stays d registers i (Some s) b none = (
-  let before = b.0 in omega (arith, before),
-  b.1,
-  b.2,
-  b.3,
-  λ q z l e near. elim (cases_lt q i) [
-    | inl lt ↦ b.4 q z lt e near
-    | inr ge ↦
-        let same : i ≡ q = omega (arith, ge, l) in
-        let least = none z (ap (slice_get registers) same ∙ e) near in
-        let before = b.0 in
-        elim (cases_lt s.distance (d z)) [ inl lt ↦ inl lt | inr le ↦ inr (omega (arith, least, le), omega (arith, before, same)) ]
-  ],
-)

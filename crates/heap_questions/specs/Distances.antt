@@ -1,5 +1,6 @@
 -- How far objects are from one of them, along references.
-use Rattle.std.specs.Prelude.{◌≡◌, ◌≢◌, ◌⊎◌, ◌+◌, ◌<◌, ◌≤◌, ℕ, List, ◌++◌, length, Option, Some, None, slice_get, slice_index_or}
+use Rattle.std.specs.Prelude.{◌≡◌, ◌≢◌, ◌⊎◌, ◌+◌, ◌<◌, ◌≤◌, ℕ, List, [], ◌∷◌, ◌++◌, length, nat_lt, ⊤, Option, Some, None, slice_get, slice_index_or, if◌then◌else◌}
+use Rattle.std.specs.List.{AllByRecursion}
 use Rattle.std.specs.Option.{option_map_or}
 use Rattle.hprof_text.specs.Image.{DumpedObject, Image}
 use Rattle.heap_questions.specs.Graph.{AreAtMost, followed, named, object_with}
@@ -84,6 +85,42 @@ abbrev pub IsNamedBy : Image → ℕ → DumpedObject → Type 0
 IsNamedBy image r o =
     (x : ℕ) × (slice_get image.registers r ≡ Some x) × (object_with image x ≡ Some o)
 
--- what the distance of a nearer start is less than
-abbrev pub least_before : Option Start → ℕ
-least_before nearest = option_map_or (λ b. b.distance) nearest far
+-- a comes before b: it is nearer, or as near with a lower number
+abbrev pub IsNearerStart : Start → Start → Type 0
+IsNearerStart a b =
+    (a.distance < b.distance) ⊎ ((a.distance ≡ b.distance) × (a.number < b.number))
+
+-- one of the first n registers, which names something near
+pub record IsNearStart (d : ℕ → ℕ) (registers : List ℕ) (n : ℕ) (b : Start) : Type 0 where
+  pub below : b.number < n
+  pub names : slice_get registers b.number ≡ Some b.id
+  pub told : d b.id ≡ b.distance
+  pub near : b.distance < far
+
+-- each comes before those behind it
+abbrev pub AreInOrder : List Start → Type 0
+AreInOrder [] = ⊤
+AreInOrder (b ∷ bs) = AllByRecursion (IsNearerStart b) bs × AreInOrder bs
+
+-- b is one of them
+abbrev pub StandsIn : Start → List Start → Type 0
+StandsIn b [] = ⊥
+StandsIn b (c ∷ cs) = (c ≡ b) ⊎ StandsIn b cs
+
+-- of the near ones among the first n registers these are the first `most`, or all
+pub record AreNearest (d : ℕ → ℕ) (registers : List ℕ) (n most : ℕ) (starts : List Start) : Type 0 where
+  pub each : AllByRecursion (IsNearStart d registers n) starts
+  pub ordered : AreInOrder starts
+  pub rest : (b : Start) → IsNearStart d registers n b
+      → StandsIn b starts ⊎ ((length starts ≡ most) × AllByRecursion (λ a. IsNearerStart a b) starts)
+
+-- a start is put before the first that is farther
+abbrev pub with_start : Start → List Start → List Start
+with_start b [] = b ∷ []
+with_start b (c ∷ cs) =
+    if nat_lt b.distance c.distance then b ∷ c ∷ cs else c ∷ with_start b cs
+
+-- of the starts by which these paths could go, which are fewer than `most`, these are the nearest
+abbrev pub AreNearestFor : (ℕ → ℕ) → List ℕ → ℕ → List Start → Type 0
+AreNearestFor d registers paths starts =
+    (most : ℕ) × (paths < most) × AreNearest d registers (length registers) most starts

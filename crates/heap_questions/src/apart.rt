@@ -2,7 +2,7 @@
 ghost use Rattle.std.specs.Prelude.{◌≡◌, ◌∷◌, ◌/◌, ◌%◌, ◌<◌, ◌&&◌, [], ℕ, All, length, map, not, reverse, slice_get, Some, IfSome, IfNone, IfOk, IfErr, IsTrue};
 ghost use Rattle.std.specs.List.{list_any};
 ghost use Rattle.heap_class.specs.declared.Refusal.TheVariants.{NoMemory};
-ghost use Rattle.heap_questions.specs.Distances.{AreDistances, distance_by};
+ghost use Rattle.heap_questions.specs.Distances.{AreDistances, AreNearestFor, distance_by};
 ghost use Rattle.heap_questions.specs.Graph.{HasId, IsFirstPath, IsShortest};
 ghost use Rattle.hprof_text.specs.Image.{Image};
 ghost use Rattle.heap_questions.specs.Hops.{TellsIds};
@@ -12,7 +12,7 @@ ghost use Rattle.heap_questions.specs.Starts.{IsFirstFree, NoneIsFree, first_hop
 
 use crate::back::distances_back;
 use crate::distances::are_distances;
-use crate::nearest::{Start, nearest_start};
+use crate::nearest::{Start, first_unused, nearest_starts};
 use crate::nodes::NodeList;
 use crate::paths::{Hop, Path, WayBack, place_in, way_back};
 use crate::search::{Reach, SLOT_SPAN, nothing_found, search_on};
@@ -32,7 +32,7 @@ pub fn first_of_paths_is_path()
 
 /// Returns `most` paths to the object with this id, of which no two start at the same register by the same slot, or as many as
 /// there are: each is the shortest that starts like none of those before it, of all such the first by register, then by slot.
-/// Fails with NoMemory. Reads each object twice, and for each path the objects along it and those that registers name.
+/// Fails with NoMemory. Reads each object three times, those that registers name once more, and for each path the objects along it.
 pub fn paths_apart<V: View>(
     alloc: Global,
     view: &V,
@@ -48,9 +48,20 @@ pub fn paths_apart<V: View>(
     let table = find_distances(alloc, view, &nodes, id)?;
     let known = table.as_slice();
     let exact = are_told(view, &nodes, known, id);
+    let starts = nearest_starts(alloc, view, &nodes, known, most)?;
+    let near = starts.as_slice();
     let mut paths = Vec::new(alloc);
     while paths.len() < most {
-        match next_path(alloc, view, &nodes, known, exact, id, paths.as_slice())? {
+        match next_path(
+            alloc,
+            view,
+            &nodes,
+            known,
+            exact,
+            near,
+            id,
+            paths.as_slice(),
+        )? {
             Some(path) => paths.push(path)?,
             None => return Ok(paths),
         }
@@ -96,12 +107,15 @@ fn next_path<V: View>(
     nodes: &NodeList,
     table: &[u32],
     exact: bool,
+    near: &[Start],
     id: u64,
     paths: &[Path],
 ) -> Result<Option<Path>, Refusal>
     requires nodes { AreNodes (V.image view.now) (V.places view.now) nodes.now }
     requires exact { IsTrue exact
         → AreDistances (V.image view.now) (distance_by nodes.now table.now) id }
+    requires near { AreNearestFor (distance_by nodes.now table.now)
+        (with_starts (V.image view.now) []).registers (length paths.now) near.now }
     ensures next { IfOk result (λ found. IfSome found (λ p.
         IsNextPath (V.image view.now) (map route_of paths.now) id (route_of p))) }
     ensures ids { IfOk result (λ found. IfSome found (TellsIds (V.image view.now))) }
@@ -110,7 +124,7 @@ fn next_path<V: View>(
     ensures refused { IfErr result (λ e. e ≡ NoMemory) }
 {
     match nodes.find(id) {
-        Some(goal) => next_path_to(alloc, view, nodes, table, exact, id, goal, paths),
+        Some(goal) => next_path_to(alloc, view, nodes, table, exact, near, id, goal, paths),
         None => Ok(None),
     }
 }
@@ -122,6 +136,7 @@ fn next_path_to<V: View>(
     nodes: &NodeList,
     table: &[u32],
     exact: bool,
+    near: &[Start],
     id: u64,
     goal: usize,
     paths: &[Path],
@@ -130,6 +145,8 @@ fn next_path_to<V: View>(
     requires goal { node_with nodes.now id ≡ Some goal }
     requires exact { IsTrue exact
         → AreDistances (V.image view.now) (distance_by nodes.now table.now) id }
+    requires near { AreNearestFor (distance_by nodes.now table.now)
+        (with_starts (V.image view.now) []).registers (length paths.now) near.now }
     ensures next { IfOk result (λ found. IfSome found (λ p.
         IsNextPath (V.image view.now) (map route_of paths.now) id (route_of p))) }
     ensures ids { IfOk result (λ found. IfSome found (TellsIds (V.image view.now))) }
@@ -146,13 +163,8 @@ fn next_path_to<V: View>(
                 hops,
             }))
         }
-        None => {
-            if exact {
-                path_by_distance(alloc, view, nodes, table, id, paths)
-            } else {
-                path_by_slot(alloc, view, nodes, id, goal, paths)
-            }
-        }
+        None if exact => path_by_distance(alloc, view, nodes, table, near, id, paths),
+        None => path_by_slot(alloc, view, nodes, id, goal, paths),
     }
 }
 
@@ -194,16 +206,19 @@ fn is_register_alone(path: &Path, register: u64) -> bool
 
 // Returns the first path to the object with this id that starts like none of these paths, by the distances of all objects from it.
 // At each register that names it one of the paths must start that has no slots. The nodes must be the view's. Fails with NoMemory.
-// Reads the objects that registers name, and those along the path.
+// Reads the objects along the path.
 fn path_by_distance<V: View>(
     alloc: Global,
     view: &V,
     nodes: &NodeList,
     table: &[u32],
+    near: &[Start],
     id: u64,
     paths: &[Path],
 ) -> Result<Option<Path>, Refusal>
     requires nodes { AreNodes (V.image view.now) (V.places view.now) nodes.now }
+    requires near { AreNearestFor (distance_by nodes.now table.now)
+        (with_starts (V.image view.now) []).registers (length paths.now) near.now }
     requires distances { AreDistances (V.image view.now) (distance_by nodes.now table.now) id }
     requires there { HasId (V.image view.now) id }
     requires used { NoneIsFree (V.image view.now).registers (map route_of paths.now) id }
@@ -216,7 +231,7 @@ fn path_by_distance<V: View>(
 {
     // Its contract says that what the view shows is within the limits of a dump.
     let _classes = view.classes();
-    match nearest_start(view, nodes, table, paths) {
+    match first_unused(near, paths) {
         Some(start) => {
             let mut hops = Vec::new(alloc);
             hops.push(hop_of(start))?;
@@ -288,7 +303,7 @@ fn path_by_slot<V: View>(
 }
 
 // Finds what is reached by the starts of none of these paths, until a node was found that is the goal. The nodes must be the
-// view's. Fails with NoMemory. Reads each object at most once, and once more for each register that names it.
+// view's. Fails with NoMemory. Reads each object at most twice, and once more for each register that names it.
 fn search_starts<V: View>(
     alloc: Global,
     view: &V,

@@ -1,5 +1,5 @@
 //! The objects of a view with their places, and how one is found by its id.
-ghost use Rattle.std.specs.Prelude.{◌≡◌, ◌<◌, ◌≤◌, ◌+◌, ◌*◌, ◌^◌, ◌++◌, List, length, map, Some, IsTrue, IfSome, IfOk, IfErr, OnOk, slice_get};
+ghost use Rattle.std.specs.Prelude.{◌≡◌, ◌<◌, ◌≤◌, ◌+◌, ◌*◌, ◌++◌, List, length, map, Some, IsTrue, IfSome, IfOk, IfErr, OnOk, slice_get};
 ghost use Rattle.heap_class.specs.declared.Refusal.TheVariants.{NoMemory};
 ghost use Rattle.hprof_text.specs.Image.{object_limit};
 ghost use Rattle.heap_questions.specs.declared.nodes.Node.{Node};
@@ -126,6 +126,32 @@ fn first_id(nodes: &[Node]) -> u64 {
     }
 }
 
+// Finds the node with this id by hints alone.
+fn told_with(hints: &[Hint], first: u64, id: u64) -> Option<usize>
+    ensures { (ns : List Node) → AreTold first hints.now ns → result ≡ node_with ns id }
+{
+    let steps = id_steps(first, id);
+    if id_after(first, steps) == id {
+        node_told(hints, steps)
+    } else {
+        None
+    }
+}
+
+// Returns the number of steps from an id to another, which may be any number if the other is smaller.
+fn id_steps(first: u64, id: u64) -> u64
+    ensures { result ≡ id_steps first id }
+{
+    id.wrapping_sub(first) / ID_STEP
+}
+
+// Returns the id that is `steps` steps from the first.
+fn id_after(first: u64, steps: u64) -> u64
+    ensures { result ≡ id_after first steps }
+{
+    first.wrapping_add(steps.wrapping_mul(ID_STEP))
+}
+
 // Returns the node that the hints tell for an id that is `steps` steps from the first, if they tell one.
 fn node_told(hints: &[Hint], steps: u64) -> Option<usize>
     ensures { result ≡ node_told hints.now steps }
@@ -148,25 +174,6 @@ fn node_told_by(hint: Hint, step: u32) -> Option<usize>
     }
     let below = hint.bits & ((1u64 << step) - 1);
     Some(hint.before as usize + below.count_ones() as usize)
-}
-
-// Returns the id that is `steps` steps from the first.
-fn id_after(first: u64, steps: u64) -> u64
-    ensures { result ≡ id_after first steps }
-{
-    first.wrapping_add(steps.wrapping_mul(ID_STEP))
-}
-
-// Finds the node with this id by hints alone.
-fn told_with(hints: &[Hint], first: u64, id: u64) -> Option<usize>
-    ensures { (ns : List Node) → AreTold first hints.now ns → result ≡ node_with ns id }
-{
-    let steps = id_steps(first, id);
-    if id_after(first, steps) == id {
-        node_told(hints, steps)
-    } else {
-        None
-    }
 }
 
 // Tells whether the hints tell where each node stands, and nothing else.
@@ -268,13 +275,6 @@ fn hint_count(nodes: &[Node]) -> usize
         }
         _ => 0,
     }
-}
-
-// Returns the number of steps from an id to another, which may be any number if the other is smaller.
-fn id_steps(first: u64, id: u64) -> u64
-    ensures { result ≡ id_steps first id }
-{
-    id.wrapping_sub(first) / ID_STEP
 }
 
 // Adds a node that stands at one of the steps of a hint.

@@ -1,12 +1,21 @@
-use Rattle.std.proofs.Common.{◌∙◌, List, length, map, ap, subst, sym, arith}
+use Rattle.std.proofs.Common.{◌∙◌, ◌<◌, List, [], length, map, ap, subst, sym, arith}
 use Rattle.std.specs.Prelude.{All, IfSome, Option}
 use Rattle.std.proofs.lemmas.List.{length_push, map_push}
 use Rattle.std.proofs.lemmas.List.Elements.{All-push}
+use Rattle.heap_questions.specs.Distances.{AreNearest, distance_by}
 use Rattle.heap_questions.specs.Hops.{TellsIds}
 use Rattle.heap_questions.specs.PathsApart.{IsNextPath, route_of}
+use Rattle.heap_questions.specs.Starts.{with_starts}
 use Rattle.heap_questions.specs.declared.paths.Path.{Path}
 use Rattle.heap_questions.proofs.PathStarts.{next_more}
 use Rattle.heap_questions.proofs.apart.paths_apart.Goals as goal
+
+pub next_path-requires-clause-near : goal.next_path-requires-clause-near
+next_path-requires-clause-near g c =
+    let d = distance_by c.in_ok-nodes.nodes c.as_slice-known.result.now in
+    let registers = (with_starts (g.V.View.image c.args.view.now) []).registers in
+    let few : length c.as_slice.result.now < c.args.most = omega (arith, ap length c.as_slice.ensures.value, c.loop-known-test.true) in
+    (c.args.most, few, subst (AreNearest d registers (length registers) c.args.most) (sym c.as_slice-near.ensures.value) c.in_ok-starts.ensures)
 
 pub loop-known-preserved : goal.loop-known-preserved
 loop-known-preserved g c =

@@ -1,5 +1,5 @@
 use Rattle.std.proofs.Common.{◌<◌, ◌∙◌, [], None, length, sym, ap, arith, slice_index_or}
-use Rattle.std.proofs.lemmas.List.{get_or_read, length-map}
+use Rattle.std.proofs.lemmas.List.{length-map}
 use Rattle.heap_pins.specs.KeptRegions.{KeptContents}
 use Rattle.heap_pins.specs.Slots.{copy_in}
 use Rattle.heap_pins.proofs.SlotTables.{nothing_is_kept_of_region, zero_by_flag}
@@ -7,11 +7,11 @@ use Rattle.heap_pins.proofs.kept.KeptRegions.has_any.Goals as goal
 
 pub returns : goal.returns
 returns c h =
-    let slots = c.self.inside.slots.items in
+    let slots = c.self.inside.slots in
     let kept = c.self.inside.kept.items in
     let lt : c.args.region < length slots = omega (arith, c.requires, ap (λ (k : KeptContents). length k.copies) c.self.view_is, length-map slots (copy_in kept)) in
-    let number = get_or_read slots c.args.region c.index.result.now lt c.index.ensures 0 in
-    let none = nothing_is_kept_of_region kept slots c.args.region lt (sym number ∙ zero_by_flag c.index.result.now h) in (
+    let number = c.get.ensures in
+    let none = nothing_is_kept_of_region kept slots c.args.region lt (sym number ∙ zero_by_flag c.get.result h) in (
       ap (λ (k : KeptContents). slice_index_or k.copies c.args.region None) (sym c.self.view_is) ∙ none.0,
       ap (λ (k : KeptContents). slice_index_or k.cells c.args.region []) (sym c.self.view_is) ∙ none.1,
     )

@@ -8,12 +8,12 @@ use Rattle.heap_pins.proofs.SlotTables.{flag_tells, flags_are_as_many}
 use Rattle.heap_pins.proofs.kept.KeptRegions.has_copy.Goals as goal
 
 pub index-requires : goal.index-requires
-index-requires c = omega (arith, c.requires, ap (λ (k : KeptContents). length k.copies) c.self.view_is, length-map c.self.inside.slots.items (copy_in c.self.inside.kept.items), flags_are_as_many c.self.inside.copied.items c.self.inside.slots.items c.self.inside.kept.items (vec_capacity c.self.inside.kept) c.self.invariant)
+index-requires c = omega (arith, c.requires, ap (λ (k : KeptContents). length k.copies) c.self.view_is, length-map c.self.inside.slots (copy_in c.self.inside.kept.items), flags_are_as_many c.self.inside.copied.items c.self.inside.slots c.self.inside.kept.items (vec_capacity c.self.inside.kept) c.self.invariant)
 
 pub returns : goal.returns
 returns c =
     let copied = c.self.inside.copied.items in
-    let slots = c.self.inside.slots.items in
+    let slots = c.self.inside.slots in
     let kept = c.self.inside.kept.items in
     let lt : c.args.region < length copied = omega (arith, c.requires, ap (λ (k : KeptContents). length k.copies) c.self.view_is, length-map slots (copy_in kept), flags_are_as_many copied slots kept (vec_capacity c.self.inside.kept) c.self.invariant) in
     get_or_read copied c.args.region c.index.result.now lt c.index.ensures false

@@ -8,7 +8,7 @@ use Rattle.heap_pins.proofs.kept.KeptRegions.new.Goals as goal
 pub invariant_of-result : goal.invariant_of-result
 invariant_of-result c =
     let flags : c.in_ok-copied.copied.items ≡ replicate c.args.count false = c.in_ok-copied.ensures.items_if_clones_equal (search) in
-    let zeros : c.in_ok-slots.slots.items ≡ replicate c.args.count 0 = c.in_ok-slots.ensures.items_if_clones_equal (search) in
+    let zeros : c.in_ok-slots.slots ≡ replicate c.args.count 0 = c.in_ok-slots.ensures in
     let capacity = vec_capacity c.in_ok-kept.kept in
     record {
       table = subst (λ l. AreSlots l c.in_ok-kept.kept.items capacity) (sym zeros)
@@ -19,6 +19,6 @@ invariant_of-result c =
 
 pub returns-clause-made : goal.returns-clause-made
 returns-clause-made c =
-    let zeros : c.in_ok-slots.slots.items ≡ replicate c.args.count 0 = c.in_ok-slots.ensures.items_if_clones_equal (search) in
+    let zeros : c.in_ok-slots.slots ≡ replicate c.args.count 0 = c.in_ok-slots.ensures in
     (λ j. record { copies = map (copy_in (c.in_ok-kept.ensures.items j)) (zeros j); cells = map (bytes_in (c.in_ok-kept.ensures.items j)) (zeros j) })
     ∙ nothing_is_kept_at_first c.args.count

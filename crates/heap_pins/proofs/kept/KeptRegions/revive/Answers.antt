@@ -6,9 +6,9 @@ use Rattle.heap_pins.proofs.SlotTables.{contents_of, revived_items_are_seen, rev
 use Rattle.heap_pins.proofs.kept.KeptRegions.revive.Goals as goal
 
 pub returns : goal.returns
-returns c = subst (λ (k : KeptContents). IsRevivedTable k (contents_of c.revive_each.new.kept.items c.self.inside.slots.items)) c.self.view_is
-    (revived_items_are_seen c.self.inside.kept.items c.revive_each.new.kept.items c.self.inside.slots.items c.revive_each.ensures.items)
+returns c = subst (λ (k : KeptContents). IsRevivedTable k (contents_of c.revive_each.new.kept.items c.self.inside.slots)) c.self.view_is
+    (revived_items_are_seen c.self.inside.kept.items c.revive_each.new.kept.items c.self.inside.slots c.revive_each.ensures.items)
 
 pub invariant_of-self : goal.invariant_of-self
-invariant_of-self c = revived_table_is_table c.self.inside.copied.items c.self.inside.slots.items c.self.inside.kept.items c.revive_each.new.kept.items (vec_capacity c.revive_each.new.kept)
-    (subst (IsTable c.self.inside.copied.items c.self.inside.slots.items c.self.inside.kept.items) (sym c.revive_each.ensures.capacity) c.self.invariant) c.revive_each.ensures.items
+invariant_of-self c = revived_table_is_table c.self.inside.copied.items c.self.inside.slots c.self.inside.kept.items c.revive_each.new.kept.items (vec_capacity c.revive_each.new.kept)
+    (subst (IsTable c.self.inside.copied.items c.self.inside.slots c.self.inside.kept.items) (sym c.revive_each.ensures.capacity) c.self.invariant) c.revive_each.ensures.items

@@ -1,5 +1,5 @@
 //! An outlet that runs the lines that it takes.
-ghost use Rattle.std.specs.Prelude.{◌≡◌, ◌<◌, ◌≤◌, [], Some, IfErr, IfOk, length, true};
+ghost use Rattle.std.specs.Prelude.{◌≡◌, ◌≤◌, [], Some, IfErr, IfOk, length, true};
 ghost use Rattle.session_text.specs.Answers.{AnswersCommand, Begins};
 ghost use Rattle.session_text.specs.declared.Ended.TheVariants.{Eof};
 ghost use Rattle.heap_console.specs.Loads.{AreLinesRun, IsLoadEnded, IsTextLoadedFrom};

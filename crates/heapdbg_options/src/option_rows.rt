@@ -153,6 +153,7 @@ macro_rules! plain_row {
 macro_rules! regions_row {
     ($rest:literal) => { size_row!("regions", "Regions of the heap", 1 to 256 to 65536, $rest) };
 }
+
 macro_rules! keep_row {
     ($rest:literal) => {
         size_row!("keep", "Steps that can be undone", 1 to 65536 to 16777216, $rest)
@@ -172,12 +173,16 @@ pub(crate) const KEEP: OptionRow = keep_row!(" [default: 1024]");
 
 // The option `--wide [N]`.
 pub(crate) const WIDE: OptionRow = flag_row!(
-    "wide", "Whether the heap has wider limits, of classes, names and pins too", "", ""
+    "wide",
+    "Whether the heap has wider limits, of classes, names and pins too",
+    "",
+    ""
 );
 
 // The option `--area N`.
 pub(crate) const AREA: OptionRow = plain_row!(
-    "area", "N",
+    "area",
+    "N",
     "Last regions of the heap, which hold arrays of more than 1024 elements, fewer than all; with --wide 1 alone [default: 0]"
 );
 
@@ -190,7 +195,9 @@ pub(crate) const TIME: OptionRow = OptionRow {
 
 // The option `--time N` without its range, of which help says nothing.
 const TIME_OF_DUMP: OptionRow = plain_row!(
-    "time", "N", "Milliseconds since 1970 in the header of a dump [default: 0]"
+    "time",
+    "N",
+    "Milliseconds since 1970 in the header of a dump [default: 0]"
 );
 
 // The option `--ids N`.
@@ -200,40 +207,50 @@ pub(crate) const IDS: OptionRow = number_row!(
 
 // The option `--quiet [N]`.
 pub(crate) const QUIET: OptionRow = flag_row!(
-    "quiet", "Whether no progress is shown on a terminal", "", ""
+    "quiet",
+    "Whether no progress is shown on a terminal",
+    "",
+    ""
 );
 
 // The option `--questions [N]`.
 pub(crate) const QUESTIONS: OptionRow = flag_row!(
-    "questions", "Whether questions are answered", "", ""
+    "questions",
+    "Whether questions are answered",
+    "",
+    ""
 );
 
 // The option `--page N`.
 pub(crate) const PAGE: OptionRow = port_row!(
-    "page", "Port on 127.0.0.1 of a page that shows the heap to a browser", " [default: none]", ""
+    "page",
+    "Port on 127.0.0.1 of a page that shows the heap to a browser",
+    " [default: none]",
+    ""
 );
 
 // The option `--secret PATH`.
 pub(crate) const SECRET: OptionRow = plain_row!(
-    "secret", "PATH", "File with the word that each client has to send first [default: none]"
+    "secret",
+    "PATH",
+    "File with the word that each client has to send first [default: none]"
 );
 
 // The option `--regions N` of a command that takes a dump.
-pub(crate) const DUMP_REGIONS: OptionRow = regions_row!(
-    " [default: 16, or with --hprof the most]"
-);
+pub(crate) const DUMP_REGIONS: OptionRow = regions_row!(" [default: 16, or with --hprof the most]");
 
 // The option `--keep N` of a command that takes a dump, but of `explore`.
 pub(crate) const DUMP_KEEP: OptionRow = keep_row!(" [default: 1024, or with --hprof 65536]");
 
 // The option `--keep N` of `explore`.
-pub(crate) const EXPLORE_KEEP: OptionRow = keep_row!(
-    " [default: the most, or with --hprof 65536]"
-);
+pub(crate) const EXPLORE_KEEP: OptionRow = keep_row!(" [default: the most, or with --hprof 65536]");
 
 // The option `--wide [N]` of a command that takes a dump.
 pub(crate) const DUMP_WIDE: OptionRow = flag_row!(
-    "wide", "Whether the heap has wider limits, of classes, names and pins too", "", ", or with --hprof 1"
+    "wide",
+    "Whether the heap has wider limits, of classes, names and pins too",
+    "",
+    ", or with --hprof 1"
 );
 
 // The option `--area N` of a command that takes a dump.
@@ -244,23 +261,30 @@ pub(crate) const DUMP_AREA: OptionRow = OptionRow {
 
 // The option `--hprof PATH`.
 pub(crate) const HPROF: OptionRow = plain_row!(
-    "hprof", "PATH", "File of a heap dump in HPROF, whose heap is made first"
+    "hprof",
+    "PATH",
+    "File of a heap dump in HPROF, whose heap is made first"
 );
 
 // The option `--from PATH`.
 pub(crate) const FROM: OptionRow = plain_row!(
-    "from", "PATH", "File of lines that are run first; their replies are not shown"
+    "from",
+    "PATH",
+    "File of lines that are run first; their replies are not shown"
 );
 
 // The option `--then PATH`.
 pub(crate) const THEN: OptionRow = plain_row!(
-    "then", "PATH",
+    "then",
+    "PATH",
     "File of a later heap dump of the same program: pin 1 keeps the heap of --hprof, out of which the heap of this dump is made; only with --hprof"
 );
 
 // The option `--out PATH`.
 pub(crate) const OUT: OptionRow = plain_row!(
-    "out", "PATH", "File that the last state is dumped to; if not given, --to is required"
+    "out",
+    "PATH",
+    "File that the last state is dumped to; if not given, --to is required"
 );
 
 // The option `--out PATH` of `fetch`, which has to be given.
@@ -281,13 +305,18 @@ const SERVED_PORT: OptionRow = port_row!("port", "Port on 127.0.0.1", "", "");
 
 // The option `--port N` of `explore`.
 pub(crate) const ASKED_PORT: OptionRow = port_row!(
-    "port", "Port on 127.0.0.1 of a heap that is served, to ask about that",
-    "; not with --from, --hprof or --page", ""
+    "port",
+    "Port on 127.0.0.1 of a heap that is served, to ask about that",
+    "; not with --from, --hprof or --page",
+    ""
 );
 
 // The option `--to N`.
 pub(crate) const TO: OptionRow = port_row!(
-    "to", "Port on 127.0.0.1 that the last state is dumped to", "; if not given, --out is required", ""
+    "to",
+    "Port on 127.0.0.1 that the last state is dumped to",
+    "; if not given, --out is required",
+    ""
 );
 
 // The option `--sessions N`.
@@ -298,12 +327,17 @@ pub(crate) const SESSIONS: OptionRow = number_row!(
 
 // The option `--workers [N]`.
 pub(crate) const WORKERS: OptionRow = flag_row!(
-    "workers", "Threads that mark, and threads that sweep", " of each", ""
+    "workers",
+    "Threads that mark, and threads that sweep",
+    " of each",
+    ""
 );
 
 // The option `--dumps N`.
 pub(crate) const DUMPS: OptionRow = port_row!(
-    "dumps", "Port on 127.0.0.1 that sends a dump to each client", " [default: none]",
+    "dumps",
+    "Port on 127.0.0.1 that sends a dump to each client",
+    " [default: none]",
     ", and not the number of --port"
 );
 
@@ -315,12 +349,18 @@ pub(crate) const SERVED_PAGE: OptionRow = OptionRow {
 
 // The option `--roll [N]`.
 pub(crate) const ROLL: OptionRow = flag_row!(
-    "roll", "Whether the heap drops old acts in place of refusing new ones", "", ""
+    "roll",
+    "Whether the heap drops old acts in place of refusing new ones",
+    "",
+    ""
 );
 
 // The option `--stay [N]`.
 pub(crate) const STAY: OptionRow = flag_row!(
-    "stay", "Whether the heap is served until it is ended from outside, and drops old acts", "", ""
+    "stay",
+    "Whether the heap is served until it is ended from outside, and drops old acts",
+    "",
+    ""
 );
 
 // The option `--idle SECONDS`.

@@ -18,17 +18,7 @@ pub(crate) const SAVE: CommandRow = CommandRow {
     about: "Runs a session, and dumps the state that it leaves; one of --out and --to is required",
     usage: Some("heapdbg save [OPTIONS] <--out <PATH>|--to <N>>"),
     options: &[
-        REGIONS,
-        MUTATORS,
-        KEEP,
-        WIDE,
-        AREA,
-        TIME,
-        IDS,
-        QUIET,
-        OUT,
-        TO,
-        QUESTIONS,
+        REGIONS, MUTATORS, KEEP, WIDE, AREA, TIME, IDS, QUIET, OUT, TO, QUESTIONS,
     ],
 };
 

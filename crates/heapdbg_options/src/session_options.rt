@@ -145,9 +145,7 @@ fn choose_task(
         return own_task(origin, page);
     };
     if from.is_some() || hprof.is_some() || page.is_some() {
-        return Err(Mistake::Rule(
-            "explore takes --port without --from, --hprof and --page",
-        ));
+        return Err(Mistake::Rule("explore takes --port without --from, --hprof and --page"));
     }
     match port_of(text) {
         Some(port) => Ok(Task::Ask { port, secret }),

@@ -7,7 +7,7 @@ ghost use Rattle.heapdbg_options.specs.Refusals.{IsReadOrMistake};
 
 use crate::command_line::{flag_from, has_dump, number, number_of};
 use crate::option_rows::{
-    CommandRow, DUMPS, DUMP_AREA, DUMP_KEEP, DUMP_REGIONS, DUMP_WIDE, HPROF, IDLE, IDS, MUTATORS,
+    CommandRow, DUMP_AREA, DUMP_KEEP, DUMP_REGIONS, DUMP_WIDE, DUMPS, HPROF, IDLE, IDS, MUTATORS,
     NEEDED_OUT, PORT, QUESTIONS, QUIET, ROLL, SECRET, SERVED_PAGE, SESSIONS, STAY, TIME, WORKERS,
 };
 use crate::refusal::Mistake;
@@ -56,12 +56,7 @@ pub(crate) const FETCH: CommandRow = CommandRow {
     name: "fetch",
     about: "Fetches a dump of a heap that is served",
     usage: None,
-    options: &[
-        PORT,
-        NEEDED_OUT,
-        SECRET,
-        QUIET,
-    ],
+    options: &[PORT, NEEDED_OUT, SECRET, QUIET],
 };
 
 // Returns the task of the options of `serve`, or the mistake in them.

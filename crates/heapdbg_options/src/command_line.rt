@@ -178,6 +178,34 @@ fn wide_from(options: &ArgMatches<'_>) -> Result<bool, Mistake>
     Ok(number == 1)
 }
 
+// Returns the number that an option is given, `default` if it isn't given, or the mistake in it.
+fn number_or(options: &ArgMatches<'_>, row: OptionRow, default: u64) -> Result<u64, Mistake>
+    requires { named row.name.now number_options ≡ Some (numbers_of row) }
+    ensures { IsReadOrMistake (option_value row.name.now default row.least row.most)
+        (rows_of (found_of options.now)) result }
+{
+    match option_value(options, row.name, default, row.least, row.most) {
+        Some(number) => Ok(number),
+        None => Err(Mistake::Value(row)),
+    }
+}
+
+// Returns the value of an option, `default` if it isn't given, or None if it isn't from `least` to `most`.
+fn option_value(
+    options: &ArgMatches<'_>,
+    name: &str,
+    default: u64,
+    least: u64,
+    most: u64,
+) -> Option<u64>
+    ensures { result ≡ option_value name.now default least most (rows_of (found_of options.now)) }
+{
+    match options.get_str(name) {
+        Some(text) => number(text, least, most),
+        None => Some(default),
+    }
+}
+
 // Returns whether a heap is wide if the option isn't given, 1 or 0: that of a dump is.
 fn wide_default(dump: bool) -> u64
     ensures { result ≡ wide_default dump }
@@ -217,41 +245,6 @@ fn settings_over(
         rolls,
         quiet,
     })
-}
-
-// Returns the number of a task's regions if the option isn't given.
-fn regions_default(task: Task, wide: bool) -> u64
-    ensures { result ≡ regions_default task wide }
-{
-    regions_after(origin_of(task), wide)
-}
-
-// Returns the number of regions if the option isn't given: for a dump the most that there may be.
-fn regions_after(origin: Origin, wide: bool) -> u64
-    ensures { result ≡ regions_after origin wide }
-{
-    match origin {
-        Origin::Fresh | Origin::Lines => 16,
-        Origin::Dump | Origin::Dumps => most_regions(wide),
-    }
-}
-
-// Returns the largest number of regions of a heap that is wide, or isn't.
-fn most_regions(wide: bool) -> u64
-    ensures { result ≡ most_regions wide }
-{
-    in_heap(REGIONS, wide).most
-}
-
-// Returns what is run before the session of a task.
-fn origin_of(task: Task) -> Origin
-    ensures { result ≡ origin_of task }
-{
-    match task {
-        Task::Run(origin) | Task::Explore { origin, .. } | Task::Draw(origin) => origin,
-        Task::Serve(service) => service.origin,
-        _ => Origin::Fresh,
-    }
 }
 
 // Returns the size that an option is given in a heap that is wide, or isn't, `default` if it isn't given, or the mistake in it.
@@ -336,6 +329,41 @@ fn counted(text: &str, times: u64, least: u64, most: u64) -> Option<u64>
         Some(size) if least <= size && size <= most => Some(size),
         Some(_) => None,
         None => None,
+    }
+}
+
+// Returns the number of a task's regions if the option isn't given.
+fn regions_default(task: Task, wide: bool) -> u64
+    ensures { result ≡ regions_default task wide }
+{
+    regions_after(origin_of(task), wide)
+}
+
+// Returns the number of regions if the option isn't given: for a dump the most that there may be.
+fn regions_after(origin: Origin, wide: bool) -> u64
+    ensures { result ≡ regions_after origin wide }
+{
+    match origin {
+        Origin::Fresh | Origin::Lines => 16,
+        Origin::Dump | Origin::Dumps => most_regions(wide),
+    }
+}
+
+// Returns the largest number of regions of a heap that is wide, or isn't.
+fn most_regions(wide: bool) -> u64
+    ensures { result ≡ most_regions wide }
+{
+    in_heap(REGIONS, wide).most
+}
+
+// Returns what is run before the session of a task.
+fn origin_of(task: Task) -> Origin
+    ensures { result ≡ origin_of task }
+{
+    match task {
+        Task::Run(origin) | Task::Explore { origin, .. } | Task::Draw(origin) => origin,
+        Task::Serve(service) => service.origin,
+        _ => Origin::Fresh,
     }
 }
 
@@ -488,34 +516,6 @@ pub(crate) fn number_of(options: &ArgMatches<'_>, row: OptionRow) -> Result<u64,
     ensures { IsReadOrMistake (value_in (numbers_of row)) (rows_of (found_of options.now)) result }
 {
     number_or(options, row, row.default)
-}
-
-// Returns the number that an option is given, `default` if it isn't given, or the mistake in it.
-fn number_or(options: &ArgMatches<'_>, row: OptionRow, default: u64) -> Result<u64, Mistake>
-    requires { named row.name.now number_options ≡ Some (numbers_of row) }
-    ensures { IsReadOrMistake (option_value row.name.now default row.least row.most)
-        (rows_of (found_of options.now)) result }
-{
-    match option_value(options, row.name, default, row.least, row.most) {
-        Some(number) => Ok(number),
-        None => Err(Mistake::Value(row)),
-    }
-}
-
-// Returns the value of an option, `default` if it isn't given, or None if it isn't from `least` to `most`.
-fn option_value(
-    options: &ArgMatches<'_>,
-    name: &str,
-    default: u64,
-    least: u64,
-    most: u64,
-) -> Option<u64>
-    ensures { result ≡ option_value name.now default least most (rows_of (found_of options.now)) }
-{
-    match options.get_str(name) {
-        Some(text) => number(text, least, most),
-        None => Some(default),
-    }
 }
 
 // Returns the number that a text of digits alone writes, or None if it isn't from `least` to `most` or the text is another.

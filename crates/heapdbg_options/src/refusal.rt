@@ -54,6 +54,13 @@ fn said(alloc: Global, mistake: Mistake) -> Result<String, AllocError>
     }
 }
 
+// Returns the text of a refusal that says this. Fails if an allocation fails.
+fn refusal_text(alloc: Global, said: &str) -> Result<String, AllocError>
+    ensures { IfOk result (λ s. string_bytes s ≡ refusal_text said.now) }
+{
+    format!(in alloc; "error: {said}\n\nFor more information, try 'heapdbg --help'.\n")
+}
+
 // Returns what is said of a value that a row's option doesn't take. Fails if an allocation fails.
 fn taken(alloc: Global, row: OptionRow) -> Result<String, AllocError>
     ensures { IfOk result (λ s. string_bytes s ≡ taken (numbers_of row)) }
@@ -67,13 +74,6 @@ fn taken(alloc: Global, row: OptionRow) -> Result<String, AllocError>
         ..
     } = row;
     format!(in alloc; "--{name} takes {least}{joint}{most}{but}")
-}
-
-// Returns the text of a refusal that says this. Fails if an allocation fails.
-fn refusal_text(alloc: Global, said: &str) -> Result<String, AllocError>
-    ensures { IfOk result (λ s. string_bytes s ≡ refusal_text said.now) }
-{
-    format!(in alloc; "error: {said}\n\nFor more information, try 'heapdbg --help'.\n")
 }
 
 // Returns the answer to `--version`, or Memory if it can't be allocated.

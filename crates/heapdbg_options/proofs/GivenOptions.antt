@@ -1,5 +1,5 @@
 -- What the options tell, and the words.
-use Rattle.std.proofs.Common.{◌≡◌, ℕ, Bool, false, inl, inr, refl, ap, sym, ◌∙◌, subst, true, List, Option, Some, None, Result, Ok, Err, IfOk, codes}
+use Rattle.std.proofs.Common.{◌≡◌, ℕ, Bool, false, refl, ap, sym, ◌∙◌, subst, true, List, Option, Some, None, Result, Ok, Err, IfOk, codes}
 use Rattle.std.specs.Borrow.{Bor}
 use Rattle.std.specs.Prelude.{IfSome, is_some, option_and_then, option_map}
 use Rattle.clap.proofs.WalkLemmas.{first_value-rows}

@@ -17,8 +17,8 @@ pub record Numbers : Type 0 where
   pub but : Text
 
 -- what is said of a value that the option doesn't take
-abbrev pub taken : Numbers → Text
-taken n =
+abbrev pub taken_text : Numbers → Text
+taken_text n =
     codes "--"
     ++ (n.name ++ (codes " takes " ++ (decimal n.least ++ (n.joint ++ (decimal n.most ++ n.but)))))
 
@@ -122,12 +122,12 @@ size_options wide =
     ∷ []
 
 -- the numbers of the option of this name among some
-abbrev pub named : Text → List Numbers → Option Numbers
-named name options = find (λ n. bytes_eq n.name name) options
+abbrev pub option_named : Text → List Numbers → Option Numbers
+option_named name options = find (λ n. bytes_eq n.name name) options
 
 -- the numbers of a row, in a heap that is wide, or isn't
-abbrev pub numbers_in : Bool → OptionRow → Numbers
-numbers_in wide row =
+abbrev pub row_numbers_in : Bool → OptionRow → Numbers
+row_numbers_in wide row =
     record {
       name = row.name.now;
       default = row.default;
@@ -138,5 +138,5 @@ numbers_in wide row =
     }
 
 -- the numbers of a row, in a heap that isn't wide
-abbrev pub numbers_of : OptionRow → Numbers
-numbers_of row = numbers_in false row
+abbrev pub row_numbers : OptionRow → Numbers
+row_numbers row = row_numbers_in false row

@@ -5,7 +5,7 @@ use Rattle.std.specs.Str.{bytes_eq}
 use Rattle.clap.specs.Words.{IsAmong, Row, Text, fault_of, first_of, subcommand_of}
 use Rattle.clap.specs.declared.error.kind.ErrorKind.{ErrorKind}
 use Rattle.clap.specs.declared.error.kind.ErrorKind.TheVariants.{DisplayHelp, DisplayVersion, OutOfMemory}
-use Rattle.heapdbg_options.specs.Numbers.{Numbers, dump_port_numbers, id_numbers, named, number_options, numbers_of, page_numbers, port_limit, served_page_numbers, served_port_numbers, size_options, taken, target_numbers}
+use Rattle.heapdbg_options.specs.Numbers.{Numbers, dump_port_numbers, id_numbers, option_named, number_options, row_numbers, page_numbers, port_limit, served_page_numbers, served_port_numbers, size_options, taken_text, target_numbers}
 use Rattle.heapdbg_options.specs.CommandLine.{dumps_with, explore_with, has_second, has_secret, heapdbg_line, id_size_in, is_task, most_area, number_in, page_with, port_in, regions_in, settings_of, size_in, wide_in}
 use Rattle.heapdbg_options.specs.declared.refusal.Mistake.{Mistake}
 use Rattle.heapdbg_options.specs.declared.refusal.Mistake.TheVariants.{Command, Rule, Value}
@@ -26,14 +26,14 @@ IsNoSize least most (Some text) = size_in least most text ≡ None
 -- an option has no number that it takes, whatever else is given
 abbrev pub IsNumberMistake : Text → List Row → Type 0
 IsNumberMistake said rows =
-    (n : Numbers) × (named n.name number_options ≡ Some n) × (said ≡ taken n)
+    (n : Numbers) × (option_named n.name number_options ≡ Some n) × (said ≡ taken_text n)
     × IsOutside n.least n.most (first_of n.name rows)
 
 -- an option has no size that it takes in a heap that is wide, or isn't
 abbrev pub IsSizeMistake : Text → List Row → Type 0
 IsSizeMistake said rows =
     (wide : Bool) × (n : Numbers) × (wide_in rows ≡ Some wide)
-    × (named n.name (size_options wide) ≡ Some n) × (said ≡ taken n)
+    × (option_named n.name (size_options wide) ≡ Some n) × (said ≡ taken_text n)
     × IsNoSize n.least n.most (first_of n.name rows)
 
 -- what is said of an area that a heap can't have that is wide, or isn't
@@ -42,7 +42,7 @@ area_rule wide =
     if wide then codes "--area takes 0 to one less than the number of --regions"
     else codes "--area takes 0 without --wide 1"
 
--- the area is none that a task's heap can have that has so many regions and is wide, or isn't
+-- the area is none that a task's heap can have that has this many regions and is wide, or isn't
 abbrev pub IsAreaMistake : Text → List Row → Type 0
 IsAreaMistake said rows =
     (task : Task) × (wide : Bool) × (regions : ℕ) × (said ≡ area_rule wide)
@@ -52,13 +52,13 @@ IsAreaMistake said rows =
 -- the port for dumps is none, or that of the sessions
 abbrev pub IsDumpPortMistake : Text → List Row → Type 0
 IsDumpPortMistake said rows =
-    (port : ℕ) × (said ≡ taken dump_port_numbers) × (port_in rows ≡ Some port)
+    (port : ℕ) × (said ≡ taken_text dump_port_numbers) × (port_in rows ≡ Some port)
     × (dumps_with port (first_of (codes "dumps") rows) ≡ None)
 
 -- the port of the page of a heap that is served is none, or one of its other ports
 abbrev pub IsPageMistake : Text → List Row → Type 0
 IsPageMistake said rows =
-    (port : ℕ) × (dumps : Option ℕ) × (said ≡ taken served_page_numbers)
+    (port : ℕ) × (dumps : Option ℕ) × (said ≡ taken_text served_page_numbers)
     × (port_in rows ≡ Some port) × (dumps_with port (first_of (codes "dumps") rows) ≡ Some dumps)
     × (page_with port dumps (first_of (codes "page") rows) ≡ None)
 
@@ -66,7 +66,7 @@ IsPageMistake said rows =
 abbrev pub IsTargetMistake : Text → Option Text → Option Text → Type 0
 IsTargetMistake said path port =
     ((said ≡ codes "save takes one of --out and --to") × (is_some path ≡ is_some port))
-    ⊎ ((said ≡ taken target_numbers) × IsOutside 1 port_limit port)
+    ⊎ ((said ≡ taken_text target_numbers) × IsOutside 1 port_limit port)
 
 -- a file of lines, a dump, a page, a port, and a secret or none have this mistake: the dump may only be given without the file, the
 -- port without the three before it, and a secret only with the port
@@ -75,8 +75,8 @@ abbrev pub IsExploreMistake : Text → Option Text → Option Text → Option Te
 IsExploreMistake said from hprof page port secret =
     ((said ≡ codes "explore takes --port without --from, --hprof and --page")
     × (is_some from || (is_some hprof || is_some page) ≡ true) × (is_some port ≡ true))
-    ⊎ (((said ≡ taken served_port_numbers) × IsOutside 1 port_limit port)
-    ⊎ (((said ≡ taken page_numbers) × IsOutside 1 port_limit page)
+    ⊎ (((said ≡ taken_text served_port_numbers) × IsOutside 1 port_limit port)
+    ⊎ (((said ≡ taken_text page_numbers) × IsOutside 1 port_limit page)
     ⊎ (((said ≡ codes "explore takes --secret with --port alone") × (secret ≡ true)
     × (is_some port ≡ false))
     ⊎ ((said ≡ codes "explore takes --from without --hprof") × (is_some from ≡ true)
@@ -92,8 +92,8 @@ IsMistakeIn said rows =
     IsNumberMistake said rows
     ⊎ (IsSizeMistake said rows
     ⊎ (IsAreaMistake said rows
-    ⊎ (((said ≡ taken id_numbers) × (id_size_in rows ≡ None))
-    ⊎ (((said ≡ taken served_port_numbers) × (port_in rows ≡ None))
+    ⊎ (((said ≡ taken_text id_numbers) × (id_size_in rows ≡ None))
+    ⊎ (((said ≡ taken_text served_port_numbers) × (port_in rows ≡ None))
     ⊎ (IsDumpPortMistake said rows
     ⊎ (IsPageMistake said rows
     ⊎ (IsTargetMistake said (first_of (codes "out") rows) (first_of (codes "to") rows)
@@ -105,7 +105,7 @@ IsMistakeIn said rows =
 -- what is said of a mistake
 abbrev pub said_of : Mistake → Text
 said_of Command = codes "heapdbg takes one of run, explore, draw, save, serve, ask and fetch"
-said_of (Value row) = taken (numbers_of row)
+said_of (Value row) = taken_text (row_numbers row)
 said_of (Rule rule) = rule.now
 
 -- what is read, or a mistake, of which what is said fits
@@ -145,8 +145,8 @@ IsMistake said found =
     ⊎ ((said ≡ said_of Command) × IsNoTask found)
 
 -- the whole text of a refusal that says this
-abbrev pub refusal_text : Text → Text
-refusal_text said =
+abbrev pub mistake_text : Text → Text
+mistake_text said =
     codes "error: " ++ (said ++ codes "\n\nFor more information, try 'heapdbg --help'.\n")
 
 -- the answer to `--version`
@@ -156,7 +156,7 @@ version_text = codes "heapdbg 1.0.0 (logic dac8208d650f15bf)\n"
 -- the text names a mistake of the command line
 abbrev pub NamesMistake : List Text → Text → Type 0
 NamesMistake words text =
-    (said : Text) × IsMistake said (subcommand_of heapdbg_line words) × (text ≡ refusal_text said)
+    (said : Text) × IsMistake said (subcommand_of heapdbg_line words) × (text ≡ mistake_text said)
 
 -- the command is `help`
 abbrev pub is_help : List Text → Bool

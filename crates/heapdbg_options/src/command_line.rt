@@ -9,7 +9,7 @@ ghost use Rattle.heapdbg_options.specs.Parsers.{IsParserOf};
 ghost use Rattle.heapdbg_options.specs.CommandLine.{AreSettingsWithin, HasDefaults, heapdbg_line, named_line, number_in};
 ghost use Rattle.heapdbg_options.specs.CommandLine.{settings_in, settings_of, settings_over, settings_under, texts, option_size, option_value, counted_in, size_in, text_before};
 ghost use Rattle.heapdbg_options.specs.CommandLine.{id_size_in, id_size_of, flag_in, has_dump, keep_after, keep_default, origin_of, path_of, regions_after, regions_default, regions_in, task_in, usual_keep, value_in, wide_default, wide_in};
-ghost use Rattle.heapdbg_options.specs.Numbers.{flag_numbers, most_kept, most_regions, named, number_options, numbers_in, numbers_of, size_options};
+ghost use Rattle.heapdbg_options.specs.Numbers.{flag_numbers, most_kept, most_regions, option_named, number_options, row_numbers_in, row_numbers, size_options};
 ghost use Rattle.heapdbg_options.specs.CommandLine.{area_after, area_default, most_area, with_area_in};
 ghost use Rattle.heapdbg_options.specs.Refusals.{IsMistake, IsReadOrMistake, IsRefusalOf, IsSaidOf, IsValueOrMistake, area_rule, is_help};
 
@@ -180,7 +180,7 @@ fn wide_from(options: &ArgMatches<'_>) -> Result<bool, Mistake>
 
 // Returns the number that an option is given, `default` if it isn't given, or the mistake in it.
 fn number_or(options: &ArgMatches<'_>, row: OptionRow, default: u64) -> Result<u64, Mistake>
-    requires { named row.name.now number_options ≡ Some (numbers_of row) }
+    requires { option_named row.name.now number_options ≡ Some (row_numbers row) }
     ensures { IsReadOrMistake (option_value row.name.now default row.least row.most)
         (rows_of (found_of options.now)) result }
 {
@@ -255,9 +255,9 @@ fn size_or(
     default: u64,
 ) -> Result<u64, Mistake>
     requires wide { wide_in (rows_of (found_of options.now)) ≡ Some wide }
-    requires size { named row.name.now (size_options wide) ≡ Some (numbers_in wide row) }
+    requires size { option_named row.name.now (size_options wide) ≡ Some (row_numbers_in wide row) }
     ensures { IsReadOrMistake
-        (option_size row.name.now default row.least (numbers_in wide row).most)
+        (option_size row.name.now default row.least (row_numbers_in wide row).most)
         (rows_of (found_of options.now)) result }
 {
     let row = in_heap(row, wide);
@@ -269,7 +269,7 @@ fn size_or(
 
 // Returns the row of an option in a heap that is wide, or isn't.
 fn in_heap(row: OptionRow, wide: bool) -> OptionRow
-    ensures { numbers_of result ≡ numbers_in wide row }
+    ensures { row_numbers result ≡ row_numbers_in wide row }
 {
     if wide {
         OptionRow {
@@ -502,8 +502,8 @@ pub fn path_option<'a>(alloc: Global, words: &'a [&'a str], name: &str) -> Optio
 
 // Returns whether an option is given as 1, or the mistake in it.
 pub(crate) fn flag_from(options: &ArgMatches<'_>, row: OptionRow) -> Result<bool, Mistake>
-    requires flag { numbers_of row ≡ flag_numbers row.name.now }
-    requires number { named row.name.now number_options ≡ Some (numbers_of row) }
+    requires flag { row_numbers row ≡ flag_numbers row.name.now }
+    requires number { option_named row.name.now number_options ≡ Some (row_numbers row) }
     ensures { IsReadOrMistake (flag_in row.name.now) (rows_of (found_of options.now)) result }
 {
     let number = number_of(options, row)?;
@@ -512,8 +512,8 @@ pub(crate) fn flag_from(options: &ArgMatches<'_>, row: OptionRow) -> Result<bool
 
 // Returns the number that an option is given, its row's default if it isn't given, or the mistake in it.
 pub(crate) fn number_of(options: &ArgMatches<'_>, row: OptionRow) -> Result<u64, Mistake>
-    requires { named row.name.now number_options ≡ Some (numbers_of row) }
-    ensures { IsReadOrMistake (value_in (numbers_of row)) (rows_of (found_of options.now)) result }
+    requires { option_named row.name.now number_options ≡ Some (row_numbers row) }
+    ensures { IsReadOrMistake (value_in (row_numbers row)) (rows_of (found_of options.now)) result }
 {
     number_or(options, row, row.default)
 }

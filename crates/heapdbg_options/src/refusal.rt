@@ -1,8 +1,8 @@
 //! The texts for command lines that the program refuses.
 ghost use Rattle.std.specs.Prelude.{◌≡◌, IfOk, string_bytes};
 ghost use Rattle.heapdbg_options.specs.CommandLine.{IsBadWith};
-ghost use Rattle.heapdbg_options.specs.Numbers.{numbers_of, taken};
-ghost use Rattle.heapdbg_options.specs.Refusals.{IsCommandWith, IsOptionWith, refusal_text, said_of, version_text};
+ghost use Rattle.heapdbg_options.specs.Numbers.{row_numbers, taken_text};
+ghost use Rattle.heapdbg_options.specs.Refusals.{IsCommandWith, IsOptionWith, mistake_text, said_of, version_text};
 
 use crate::option_rows::OptionRow;
 use crate::settings::LineFault;
@@ -28,7 +28,7 @@ pub(crate) enum Mistake {
 impl Mistake {
     // Returns the refusal of a command line with this mistake, or Memory if its text can't be allocated.
     pub(crate) fn refusal(self, alloc: Global) -> LineFault
-        ensures { IsBadWith (refusal_text (said_of self)) result }
+        ensures { IsBadWith (mistake_text (said_of self)) result }
     {
         match said(alloc, self) {
             Ok(text) => LineFault::Bad(text),
@@ -39,31 +39,31 @@ impl Mistake {
 
 // Returns the text of a refusal for a mistake, which says what has to be given instead. Fails if an allocation fails.
 fn said(alloc: Global, mistake: Mistake) -> Result<String, AllocError>
-    ensures { IfOk result (λ s. string_bytes s ≡ refusal_text (said_of mistake)) }
+    ensures { IfOk result (λ s. string_bytes s ≡ mistake_text (said_of mistake)) }
 {
     match mistake {
-        Mistake::Command => refusal_text(
+        Mistake::Command => mistake_text(
             alloc,
             "heapdbg takes one of run, explore, draw, save, serve, ask and fetch",
         ),
         Mistake::Value(row) => {
-            let taken = taken(alloc, row)?;
-            refusal_text(alloc, taken.as_str())
+            let taken = taken_text(alloc, row)?;
+            mistake_text(alloc, taken.as_str())
         }
-        Mistake::Rule(rule) => refusal_text(alloc, rule),
+        Mistake::Rule(rule) => mistake_text(alloc, rule),
     }
 }
 
 // Returns the text of a refusal that says this. Fails if an allocation fails.
-fn refusal_text(alloc: Global, said: &str) -> Result<String, AllocError>
-    ensures { IfOk result (λ s. string_bytes s ≡ refusal_text said.now) }
+fn mistake_text(alloc: Global, said: &str) -> Result<String, AllocError>
+    ensures { IfOk result (λ s. string_bytes s ≡ mistake_text said.now) }
 {
     format!(in alloc; "error: {said}\n\nFor more information, try 'heapdbg --help'.\n")
 }
 
 // Returns what is said of a value that a row's option doesn't take. Fails if an allocation fails.
-fn taken(alloc: Global, row: OptionRow) -> Result<String, AllocError>
-    ensures { IfOk result (λ s. string_bytes s ≡ taken (numbers_of row)) }
+fn taken_text(alloc: Global, row: OptionRow) -> Result<String, AllocError>
+    ensures { IfOk result (λ s. string_bytes s ≡ taken_text (row_numbers row)) }
 {
     let OptionRow {
         name,

@@ -2,7 +2,7 @@
 ghost use Rattle.std.specs.Prelude.{◌≡◌, Some, option_map, true};
 ghost use Rattle.clap.specs.Words.{found_of, rows_of};
 ghost use Rattle.heapdbg_options.specs.CommandLine.{draw_in, dump_origin, explore_in, has_second, origin_in, own_page, run_in, second_task};
-ghost use Rattle.heapdbg_options.specs.Numbers.{page_numbers, port_limit, taken};
+ghost use Rattle.heapdbg_options.specs.Numbers.{page_numbers, port_limit, taken_text};
 ghost use Rattle.heapdbg_options.specs.Refusals.{IsExploreOrMistake, IsOutside, IsReadOrMistake, IsValueOrMistake, second_rule};
 ghost use Rattle.heapdbg_options.specs.declared.settings.Task.TheVariants.{Explore};
 
@@ -169,7 +169,8 @@ fn origin_in(from: bool, hprof: bool) -> Option<Origin>
 fn own_task(origin: Origin, page: Option<&str>) -> Result<Task, Mistake>
     ensures { IsValueOrMistake
         (option_map (λ p. Explore origin p) (own_page (option_map (λ s. s.now) page.entry)))
-        (λ said. (said ≡ taken page_numbers) × IsOutside 1 port_limit (option_map (λ s. s.now) page.entry)) result }
+        (λ said. (said ≡ taken_text page_numbers)
+        × IsOutside 1 port_limit (option_map (λ s. s.now) page.entry)) result }
 {
     let Some(text) = page else {
         return Ok(Task::Explore { origin, page: None });

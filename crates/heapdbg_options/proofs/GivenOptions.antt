@@ -8,7 +8,7 @@ use Rattle.clap.specs.Words.{App, FailsBy, HasMatchesOf, Row, Text, fault_of, fi
 use Rattle.clap.specs.declared.error.Error.{Error}
 use Rattle.clap.specs.declared.parser.matches.ArgMatches.{ArgMatches}
 use Rattle.clap.specs.declared.parser.matches.Found.{Found}
-use Rattle.heapdbg_options.specs.CommandLine.{area_default, area_in, explore_in, explore_with, has_second, has_secret, heapdbg_line, id_size_in, keep_default, keep_in, most_area, most_kept, number_in, option_value, own_page, path_of, port_limit, questions_in, regions_in, rolls_in, second_task, settings_over, settings_with, size_or, time_limit, wide_in, with_area_in}
+use Rattle.heapdbg_options.specs.CommandLine.{area_default, area_in, explore_in, explore_with, picture_rows_in, has_second, has_secret, heapdbg_line, id_size_in, keep_default, keep_in, most_area, most_kept, number_in, option_value, own_page, path_of, port_limit, questions_in, regions_in, rolls_in, second_task, settings_over, settings_with, size_or, time_limit, wide_in, with_area_in}
 use Rattle.heap_class.specs.declared.IdSize.{IdSize}
 use Rattle.heap_world.specs.Limits.{mutator_limit}
 use Rattle.heapdbg_options.specs.Refusals.{IsExploreMistake, IsExploreOrMistake, IsMistakeIn, IsNoSize, IsOutside, area_mistake, keep_mistake, IsTargetMistake, IsTaskOrMistake, IsValueOrMistake}
@@ -152,10 +152,10 @@ no_size_within_bounds : (default least most : ℕ) (given : Option Text) → siz
 no_size_within_bounds default least most None e = cc
 no_size_within_bounds default least most (Some text) e = e
 
-no_settings_without_keep : (task : Task) (w u : Bool) (r m t : Option ℕ) (i : Option IdSize) (q o : Option Bool) → settings_with task w u r m None t i q o ≡ None
-no_settings_without_keep task w u None m t i q o = refl
-no_settings_without_keep task w u (Some r) None t i q o = refl
-no_settings_without_keep task w u (Some r) (Some m) t i q o = refl
+no_settings_without_keep : (task : Task) (w u : Bool) (r m t : Option ℕ) (i : Option IdSize) (q o : Option Bool) (f : Option ℕ) → settings_with task w u r m None t i q o f ≡ None
+no_settings_without_keep task w u None m t i q o f = refl
+no_settings_without_keep task w u (Some r) None t i q o f = refl
+no_settings_without_keep task w u (Some r) (Some m) t i q o f = refl
 
 mistake_of_keep : (w : Bool) (rows : List Row) → wide_in rows ≡ Some w → IsNoSize 1 (most_kept w) (first_of (codes "keep") rows) → IsMistakeIn (keep_mistake w) rows
 mistake_of_keep false rows wide h = (wide, h)
@@ -164,7 +164,7 @@ mistake_of_keep true rows wide h = (wide, h)
 -- an option `--keep` that is out of its range is the mistake of its command
 pub keep_mistake_is_in_rows : (task : Task) (w u : Bool) (rows : List Row) → wide_in rows ≡ Some w → keep_in task w rows ≡ None → (settings_over task rows w u ≡ None) × IsMistakeIn (keep_mistake w) rows
 keep_mistake_is_in_rows task w u rows wide e = (
-  rw e (no_settings_without_keep task w u (regions_in task w rows) (option_value (codes "mutators") 2 1 mutator_limit rows) (option_value (codes "time") 0 0 time_limit rows) (id_size_in rows) (questions_in rows) (rolls_in rows)),
+  rw e (no_settings_without_keep task w u (regions_in task w rows) (option_value (codes "mutators") 2 1 mutator_limit rows) (option_value (codes "time") 0 0 time_limit rows) (id_size_in rows) (questions_in rows) (rolls_in rows) (picture_rows_in rows)),
   mistake_of_keep w rows wide (no_size_within_bounds (keep_default task w) 1 (most_kept w) (first_of (codes "keep") rows) e),
 )
 

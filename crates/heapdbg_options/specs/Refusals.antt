@@ -6,9 +6,9 @@ use Rattle.clap.specs.Words.{IsAmong, Row, Text, fault_of, first_of, subcommand_
 use Rattle.clap.specs.declared.error.kind.ErrorKind.{ErrorKind}
 use Rattle.clap.specs.declared.error.kind.ErrorKind.TheVariants.{DisplayHelp, DisplayVersion, OutOfMemory}
 use Rattle.heap_world.specs.Limits.{mutator_limit}
-use Rattle.heapdbg_options.specs.CommandLine.{dumps_with, explore_with, has_second, has_secret, heapdbg_line, id_size_in, idle_in, is_task, most_area, most_kept, most_regions, number_in, page_with, port_in, port_limit, questions_in, quiet_in, regions_in, rolls_in, sessions_in, settings_of, stays_in, option_value, size_in, time_limit, wide_in, workers_in}
+use Rattle.heapdbg_options.specs.CommandLine.{dumps_with, explore_with, picture_rows_in, has_second, has_secret, heapdbg_line, id_size_in, idle_in, is_task, most_area, most_kept, most_regions, number_in, page_with, port_in, port_limit, questions_in, quiet_in, regions_in, rolls_in, sessions_in, settings_of, stays_in, option_value, size_in, time_limit, wide_in, workers_in}
 use Rattle.heapdbg_options.specs.declared.refusal.Mistake.{Mistake}
-use Rattle.heapdbg_options.specs.declared.refusal.Mistake.TheVariants.{Command, Wide, Regions, WideRegions, Area, WideArea, Mutators, Keep, WideKeep, Time, Ids, Port, Sessions, Workers, Questions, Roll, Quiet, Dumps, Page, Idle, Stay, To, Place, Origin, Source, OwnPage, Secret, Second}
+use Rattle.heapdbg_options.specs.declared.refusal.Mistake.TheVariants.{Command, Wide, Regions, WideRegions, Area, WideArea, Mutators, Keep, WideKeep, Time, Ids, Port, Sessions, Workers, Questions, Roll, Quiet, First, Dumps, Page, Idle, Stay, To, Place, Origin, Source, OwnPage, Secret, Second}
 use Rattle.heapdbg_options.specs.declared.settings.LineFault.{LineFault}
 use Rattle.heapdbg_options.specs.declared.settings.LineFault.TheVariants.{Bad, CommandText, Memory, OptionText}
 use Rattle.heapdbg_options.specs.declared.settings.Task.{Task}
@@ -66,6 +66,7 @@ IsMistakeIn Workers rows = workers_in rows ≡ None
 IsMistakeIn Questions rows = questions_in rows ≡ None
 IsMistakeIn Roll rows = rolls_in rows ≡ None
 IsMistakeIn Quiet rows = quiet_in rows ≡ None
+IsMistakeIn First rows = picture_rows_in rows ≡ None
 IsMistakeIn Dumps rows =
     (port : ℕ) × (port_in rows ≡ Some port)
     × (dumps_with port (first_of (codes "dumps") rows) ≡ None)
@@ -154,6 +155,7 @@ mistake_of Workers = codes "--workers takes 0 or 1"
 mistake_of Questions = codes "--questions takes 0 or 1"
 mistake_of Roll = codes "--roll takes 0 or 1"
 mistake_of Quiet = codes "--quiet takes 0 or 1"
+mistake_of First = codes "--first takes 1 to 65536"
 mistake_of Dumps = codes "--dumps takes 1 to 65535, and not the number of --port"
 mistake_of Page = codes "--page takes 1 to 65535, and not the number of --port or --dumps"
 mistake_of Idle = codes "--idle takes 1 to 86400"

@@ -213,6 +213,7 @@ fn settings_over(
     let ids = id_size_from(options).ok_or(Mistake::Ids)?;
     let questions = flag_from(options, "questions").ok_or(Mistake::Questions)?;
     let rolls = flag_from(options, "roll").ok_or(Mistake::Roll)?;
+    let picture_rows = option_value(options, "first", 1024, 1, REGION_LIMIT).ok_or(Mistake::First)?;
     Ok(Settings {
         task,
         wide,
@@ -225,6 +226,7 @@ fn settings_over(
         questions,
         rolls,
         quiet,
+        picture_rows,
     })
 }
 

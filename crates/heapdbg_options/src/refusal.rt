@@ -49,6 +49,8 @@ pub enum Mistake {
     Roll,
     /// `--quiet` is out of its range.
     Quiet,
+    /// `--first` is out of its range.
+    First,
     /// `--dumps` is out of its range, or the port of the sessions.
     Dumps,
     /// `--page` is out of its range, or another port of the heap.
@@ -97,6 +99,7 @@ impl Mistake {
             Mistake::Questions => "--questions takes 0 or 1",
             Mistake::Roll => "--roll takes 0 or 1",
             Mistake::Quiet => "--quiet takes 0 or 1",
+            Mistake::First => "--first takes 1 to 65536",
             Mistake::Dumps => "--dumps takes 1 to 65535, and not the number of --port",
             Mistake::Page => "--page takes 1 to 65535, and not the number of --port or --dumps",
             Mistake::Idle => "--idle takes 1 to 86400",

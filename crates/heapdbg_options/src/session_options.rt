@@ -109,6 +109,13 @@ pub(crate) const DRAW: CommandRow = CommandRow {
             is_required: true,
             is_flag: false,
         },
+        OptionRow {
+            name: "first",
+            value: "N",
+            help: "Regions whose cells are drawn, those with the most bytes, 1 to 65536; the others are bars [default: 1024]",
+            is_required: false,
+            is_flag: false,
+        },
         HPROF,
     ],
 };

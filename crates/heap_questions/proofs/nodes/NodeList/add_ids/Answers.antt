@@ -9,7 +9,7 @@ pub loop-node-preserved : goal.loop-node-preserved
 loop-node-preserved g c =
     let nodes = c.args.self.now in
     let f : Node → ℕ = λ n. n.id in
-    let old = c.args.ids.old.items in
+    let old = c.args.ids.now.items in
     let i = c.loop-node.node in
     let n = item_of_list_within nodes i (omega arith) in
     c.in_ok-push.ensures.items
@@ -22,4 +22,4 @@ pub returns : goal.returns
 returns g c =
     let nodes = c.args.self.now in
     let f : Node → ℕ = λ n. n.id in
-    c.loop-node.invariant ∙ ap (λ (ns : List Node). c.args.ids.old.items ++ map f ns) (take_all c.loop-node.node nodes (omega (arith, c.loop-node-test.false, c.len-node-end.ensures)))
+    c.loop-node.invariant ∙ ap (λ (ns : List Node). c.args.ids.now.items ++ map f ns) (take_all c.loop-node.node nodes (omega (arith, c.loop-node-test.false, c.len-node-end.ensures)))

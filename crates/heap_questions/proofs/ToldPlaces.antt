@@ -1,23 +1,22 @@
 -- Nodes of which only the places are kept.
-use Rattle.std.proofs.Common.{◌≡◌, ◌≢◌, ℕ, zero, suc, ◌+◌, ◌*◌, ◌<◌, ◌≤◌, Bool, true, false, cond, List, [], ◌∷◌, ◌++◌, length, map, take, get_or, refl, sym, ap, ap₂, ◌∙◌, subst, inl, inr, arith}
+use Rattle.std.proofs.Common.{◌≡◌, ℕ, zero, suc, ◌+◌, ◌*◌, ◌<◌, Bool, true, false, cond, List, [], ◌∷◌, ◌++◌, length, map, take, get_or, refl, sym, ap, ap₂, ◌∙◌, subst, inl, inr, arith}
 use Rattle.std.specs.Prelude.{slice_get, Option, Some, None, IfSome, ◌==◌}
 use Rattle.std.specs.Option.{option_map_or}
 use Rattle.std.proofs.lemmas.Bool.{cases_eq, cases_lt, eq-eqb, eqb-true, true≢false}
 use Rattle.std.proofs.lemmas.List.{length-map, length_push, take_more}
-use Rattle.std.proofs.lemmas.Option.{none-some, same_Some, slice_get_within, slice_get-get_or, get_or_from_slice_get}
+use Rattle.std.proofs.lemmas.Option.{none-some, same_Some, slice_get_within, get_or_from_slice_get}
 use Rattle.heap_class.specs.declared.ObjRef.{ObjRef}
 use Rattle.hprof_text.specs.Image.{Image, DumpedObject}
 use Rattle.hprof_text.proofs.Loops.{item_of_list_within}
-use Rattle.hprof_text.proofs.ViewedObjects.{is_there}
 use Rattle.heap_questions.specs.Hints.{AreTold, IsToldAt, id_after, id_steps, node_told}
 use Rattle.heap_questions.specs.Search.{AreNodes}
-use Rattle.heap_questions.specs.ToldNodes.{HoldsOfNodes, is_step_of, last_step_of, told_from, told_node, told_nodes}
+use Rattle.heap_questions.specs.ToldNodes.{HoldsOfNodes, is_step_of, last_step_of, told_nodes_from, told_node, told_nodes}
 use Rattle.heap_questions.specs.declared.hints.Hint.{Hint}
 use Rattle.heap_questions.specs.declared.nodes.Node.{Node}
 use Rattle.heap_questions.proofs.ListedObjects.{node_id}
 use Rattle.heap_questions.proofs.LongerLists.{got_same}
 use Rattle.heap_questions.proofs.NamedObjects.{said_of}
-use Rattle.heap_questions.proofs.NodePlaces.{as_many, node_place}
+use Rattle.heap_questions.proofs.NodePlaces.{as_many}
 use Rattle.heap_questions.proofs.ToldNodes.{past_hints}
 
 -- ---- the step of a node
@@ -61,8 +60,8 @@ told_id first hints nodes k a at h g =
 
 -- ---- all nodes
 
-all_from : (first : ℕ) (hints : List Hint) (nodes : List Node) (k : ℕ) → ((i : ℕ) (a : Node) → slice_get nodes i ≡ Some a → (told_node first hints a.at (k + i)).id ≡ a.id) → told_from first hints (map (λ n. n.at) nodes) k ≡ nodes
-unfolding told_from
+all_from : (first : ℕ) (hints : List Hint) (nodes : List Node) (k : ℕ) → ((i : ℕ) (a : Node) → slice_get nodes i ≡ Some a → (told_node first hints a.at (k + i)).id ≡ a.id) → told_nodes_from first hints (map (λ n. n.at) nodes) k ≡ nodes
+unfolding told_nodes_from
 all_from first hints [] k h = refl
 all_from first hints (n ∷ nodes) k h =
     let zero_more : k ≡ k + 0 = omega arith in
@@ -76,7 +75,7 @@ all_from first hints (n ∷ nodes) k h =
 -- told nodes are what hints tell at their places
 told_nodes_are : (first : ℕ) (hints : List Hint) (image : Image) (places : List ObjRef) (nodes : List Node) → AreNodes image places nodes → AreTold first hints nodes → told_nodes first hints places ≡ nodes
 told_nodes_are first hints image places nodes n h =
-    ap (λ ps. told_from first hints ps 0) (sym n.placed)
+    ap (λ ps. told_nodes_from first hints ps 0) (sym n.placed)
     ∙ all_from first hints nodes 0 (λ i a g.
     let none_more : 0 + i ≡ i = omega arith in
     ap (λ j. (told_node first hints a.at j).id) none_more ∙ told_id first hints nodes i a a.at h g)
@@ -112,13 +111,13 @@ places_tell_nodes first hints image places kept same e h =
 
 -- ---- a place
 
-pub as_many_told : (first : ℕ) (hints : List Hint) (places : List ObjRef) (k : ℕ) → length (told_from first hints places k) ≡ length places
-unfolding told_from
+pub as_many_told : (first : ℕ) (hints : List Hint) (places : List ObjRef) (k : ℕ) → length (told_nodes_from first hints places k) ≡ length places
+unfolding told_nodes_from
 as_many_told first hints [] k = refl
 as_many_told first hints (at ∷ places) k = let e = as_many_told first hints places (k + 1) in omega (arith, e)
 
-place_told : (first : ℕ) (hints : List Hint) (places : List ObjRef) (k i : ℕ) (n : Node) → slice_get (told_from first hints places k) i ≡ Some n → slice_get places i ≡ Some n.at
-unfolding told_from
+place_told : (first : ℕ) (hints : List Hint) (places : List ObjRef) (k i : ℕ) (n : Node) → slice_get (told_nodes_from first hints places k) i ≡ Some n → slice_get places i ≡ Some n.at
+unfolding told_nodes_from
 place_told first hints [] k i n g = absurd (none-some n g)
 place_told first hints (at ∷ places) k zero n g = ap (λ (m : Node). Some m.at) (same_Some (told_node first hints at k) n g)
 place_told first hints (at ∷ places) k (suc i) n g = place_told first hints places (k + 1) i n g
@@ -155,8 +154,8 @@ told_at first hints image places nodes steps k x h w named before after told =
 
 -- ---- place by place
 
-pub one_place_more : (places old new : List ObjRef) (at : ObjRef) → slice_get places (length old) ≡ Some at → old ≡ take (length old) places → new ≡ old ++ at ∷ [] → new ≡ take (length new) places
-one_place_more places old new at h a e =
+pub kept_places_with_next : (places old new : List ObjRef) (at : ObjRef) → slice_get places (length old) ≡ Some at → old ≡ take (length old) places → new ≡ old ++ at ∷ [] → new ≡ take (length new) places
+kept_places_with_next places old new at h a e =
     e ∙ ap (λ l. l ++ at ∷ []) a
     ∙ ap (λ y. take (length old) places ++ y ∷ []) (sym (get_or_from_slice_get places (length old) at at h))
     ∙ sym (take_more places (length old) at (slice_get_within places (length old) at h))

@@ -23,14 +23,14 @@ told_node first hints at k =
     record { at = at; id = id_after first (last_step_of hints k (length hints * 64)) }
 
 -- the nodes at these places, of which the first is node k
-unfoldable pub told_from : ℕ → List Hint → List ObjRef → ℕ → List Node
-told_from first hints [] k = []
-told_from first hints (at ∷ places) k =
-    told_node first hints at k ∷ told_from first hints places (k + 1)
+unfoldable pub told_nodes_from : ℕ → List Hint → List ObjRef → ℕ → List Node
+told_nodes_from first hints [] k = []
+told_nodes_from first hints (at ∷ places) k =
+    told_node first hints at k ∷ told_nodes_from first hints places (k + 1)
 
 -- the nodes at these places
 abbrev pub told_nodes : ℕ → List Hint → List ObjRef → List Node
-told_nodes first hints places = told_from first hints places 0
+told_nodes first hints places = told_nodes_from first hints places 0
 
 -- this holds of the nodes that stand for the objects of an image at these places
 abbrev pub HoldsOfNodes : Image → List ObjRef → (List Node → Type 0) → Type 0

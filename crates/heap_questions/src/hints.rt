@@ -30,20 +30,6 @@ pub(crate) fn told_with(hints: &[Hint], first: u64, id: u64) -> Option<usize>
     }
 }
 
-// Returns the number of steps from an id to another, which may be any number if the other is smaller.
-pub(crate) fn id_steps(first: u64, id: u64) -> u64
-    ensures { result ≡ id_steps first id }
-{
-    id.wrapping_sub(first) / ID_STEP
-}
-
-// Returns the id that is `steps` steps from the first.
-pub(crate) fn id_after(first: u64, steps: u64) -> u64
-    ensures { result ≡ id_after first steps }
-{
-    first.wrapping_add(steps.wrapping_mul(ID_STEP))
-}
-
 // Returns the node that the hints tell for an id that is `steps` steps from the first, if they tell one.
 fn node_told(hints: &[Hint], steps: u64) -> Option<usize>
     ensures { result ≡ node_told hints.now steps }
@@ -66,6 +52,20 @@ fn node_told_by(hint: Hint, step: u32) -> Option<usize>
     }
     let below = hint.bits & ((1u64 << step) - 1);
     Some(hint.before as usize + below.count_ones() as usize)
+}
+
+// Returns the number of steps from an id to another, which may be any number if the other is smaller.
+pub(crate) fn id_steps(first: u64, id: u64) -> u64
+    ensures { result ≡ id_steps first id }
+{
+    id.wrapping_sub(first) / ID_STEP
+}
+
+// Returns the id that is `steps` steps from the first.
+pub(crate) fn id_after(first: u64, steps: u64) -> u64
+    ensures { result ≡ id_after first steps }
+{
+    first.wrapping_add(steps.wrapping_mul(ID_STEP))
 }
 
 // Tells whether the hints tell this node for an id this many steps from the first.

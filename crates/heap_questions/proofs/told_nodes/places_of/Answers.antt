@@ -2,7 +2,7 @@ use Rattle.std.proofs.Common.{length, sym, ap, ◌∙◌, arith}
 use Rattle.std.specs.Prelude.{slice_get}
 use Rattle.std.proofs.lemmas.List.{length_push, take_all}
 use Rattle.hprof_text.proofs.ViewedObjects.{number_after_place_within, no_next_place_is_past_all}
-use Rattle.heap_questions.proofs.ToldPlaces.{one_place_more}
+use Rattle.heap_questions.proofs.ToldPlaces.{kept_places_with_next}
 use Rattle.heap_questions.proofs.told_nodes.places_of.Goals as goal
 
 pub loop-here-preserved : goal.loop-here-preserved
@@ -17,7 +17,7 @@ loop-here-preserved g c =
     let w = number_after_place_within places i at e in
     record {
       here = c.next-here.ensures i e ∙ ap (slice_get places) (sym n);
-      places = one_place_more places old new at e c.loop-here.invariant.places c.in_ok-push.ensures.items;
+      places = kept_places_with_next places old new at e c.loop-here.invariant.places c.in_ok-push.ensures.items;
       passed = omega (arith, n, w);
     }
 

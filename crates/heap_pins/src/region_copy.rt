@@ -99,16 +99,6 @@ impl RegionCopy {
     }
 }
 
-// Puts the dead objects into their cells.
-fn put_dead(copy: &mut FrozenRegion, dead: &[(u64, ObjectCopy)])
-    requires { AreFit copy.old.cell_size (length copy.old.cells) dead.now }
-    ensures { copy.new ≡ with_dead dead.now copy.old }
-{
-    for (cell, object) in dead {
-        copy.put(*cell, object);
-    }
-}
-
 // Returns a copy of a region of which a word was overwritten, with the old word. It is the shared one, or if there is none, it is
 // made and shared. Fails with NoMemory if an allocation fails.
 pub(crate) fn word_copy(
@@ -133,6 +123,20 @@ pub(crate) fn word_copy(
     Ok(shared_from_now(world.regions().allocator(), copy, shared)?)
 }
 
+// Creates a copy that is shared from now on. Fails if the allocation fails.
+fn shared_from_now(
+    alloc: Global,
+    region: FrozenRegion,
+    shared: &mut Option<RegionCopy>,
+) -> Result<RegionCopy, AllocError>
+    ensures made { IfOk result (λ c. c ≡ region) }
+    ensures shared { (shared.new ≡ shared.old) ⊎ (shared.new ≡ Some region) }
+{
+    let copy = RegionCopy::new(alloc, region)?;
+    *shared = Some(copy.share()?);
+    Ok(copy)
+}
+
 // Returns a copy of a region that lost these dead objects, with them, as `word_copy` does.
 pub(crate) fn dead_copy(
     world: &World,
@@ -155,6 +159,16 @@ pub(crate) fn dead_copy(
     Ok(shared_from_now(world.regions().allocator(), copy, shared)?)
 }
 
+// Puts the dead objects into their cells.
+fn put_dead(copy: &mut FrozenRegion, dead: &[(u64, ObjectCopy)])
+    requires { AreFit copy.old.cell_size (length copy.old.cells) dead.now }
+    ensures { copy.new ≡ with_dead dead.now copy.old }
+{
+    for (cell, object) in dead {
+        copy.put(*cell, object);
+    }
+}
+
 // Returns a copy of a region that was moved out, as `word_copy` does.
 pub(crate) fn storage_copy(
     alloc: Global,
@@ -169,18 +183,4 @@ pub(crate) fn storage_copy(
         return copy.share();
     }
     shared_from_now(alloc, storage.freeze(alloc)?, shared)
-}
-
-// Creates a copy that is shared from now on. Fails if the allocation fails.
-fn shared_from_now(
-    alloc: Global,
-    region: FrozenRegion,
-    shared: &mut Option<RegionCopy>,
-) -> Result<RegionCopy, AllocError>
-    ensures made { IfOk result (λ c. c ≡ region) }
-    ensures shared { (shared.new ≡ shared.old) ⊎ (shared.new ≡ Some region) }
-{
-    let copy = RegionCopy::new(alloc, region)?;
-    *shared = Some(copy.share()?);
-    Ok(copy)
 }

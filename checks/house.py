@@ -26,6 +26,7 @@ DEFINITION = re.compile(r"(?m)^(?:(?:abbrev|unfoldable|pub|record|data|inline) )
 BANNED = re.compile(r"want of memory|finds? no memory|\bso many\b|\bby lot\b|can't be had|wants_memory")
 TEXTS = "README.md", "CHANGES.md", "docs/*.md", "clients/**/*.md", "clients/**/*.py", "checks/**/*.py", "bench/**/*.py", "scripts/*", "man/*"
 STATEMENT = re.compile(r"(?m)^(?:pub )?([A-Za-z_][\w'-]*) : (.{40,}(?:\n +.*)*)")
+IMPORT = re.compile(r"(?m)^ *(?:ghost )?use Rattle[^{;\n]*\{([^}]*)\};?$")
 
 
 def texts(folder, pattern):
@@ -196,6 +197,30 @@ def broken_wraps():
                         yield f"{path.relative_to(TOP / 'crates')}:{number}"
 
 
+def unused_of(names, text):
+    """Yields those of these imported names that don't stand in a text. `◌` is where an operator takes something."""
+    words = {word.split(".")[0] for word in re.split(r"[\s()\[\]{},;]+", text)}
+    for name in names:
+        parts = [part for part in name.split("◌") if part]
+        # `do` takes `>>=` unsaid. What stands before its argument needs no space there.
+        if name in ("◌>>=◌", "[]") or name.endswith("◌") and not name.startswith("◌"):
+            used = "←" in text or parts[0] in text
+        else:
+            used = words.issuperset(parts)
+        if not used:
+            yield name
+
+
+def needless_imports():
+    """Yields files with names that they import for clauses, definitions or proofs, and that stand nowhere else in them."""
+    for files in (*CODE.values(), *SPECS.values(), *PROOFS.values()):
+        for path, text in files.items():
+            rest = re.sub(r"//.*" if path.suffix == ".rt" else r"--.*", "", IMPORT.sub("", text))
+            names = [name.strip() for found in IMPORT.findall(text) for name in found.split(",")]
+            if found := list(unused_of([name.split(" as ")[-1] for name in names if name], rest)):
+                yield f"{path.relative_to(TOP / 'crates')}: {', '.join(found)}"
+
+
 # What is counted, and the most of it.
 COUNTS = {
     unshared_functions: 19,
@@ -211,6 +236,7 @@ COUNTS = {
     parameters_of_tests: 0,
     shared_definitions: 118,
     broken_wraps: 0,
+    needless_imports: 31,
 }
 
 

@@ -3,6 +3,7 @@
 #![tactic(auto)]
 
 mod advice;
+mod answer_reports;
 mod columns;
 mod console;
 mod discard;

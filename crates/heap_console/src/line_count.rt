@@ -35,7 +35,14 @@ impl<R: Clock + Eprint> LineCount<'_, R> {
 
     /// Writes the count anew, if it is time.
     pub(crate) fn show(&mut self, lines: u64) {
-        if lines % LINES == 0 && self.is_due() {
+        if lines % LINES == 0 {
+            self.show_now(lines);
+        }
+    }
+
+    /// Writes the count anew, if it is time. Looks at the clock at each call.
+    pub(crate) fn show_now(&mut self, lines: u64) {
+        if self.is_due() {
             self.write(lines);
         }
     }

@@ -16,24 +16,19 @@ use std::time::Clock;
 #[derive(Drop)]
 pub struct LineInlet<'a, F: Read + Drop, R> {
     pub(crate) reports: LineReports<'a, R>,
+    answers: &'a NewestLine,
+    line: Vec<u8>,
     reader: BufReader<F>,
     given: Given,
 }
 
-// Copies bytes to the front of a room, up to the first LF, the last byte or the end of the room. Returns how many.
-pub(crate) fn copy_line(bytes: &[u8], room: &mut [u8]) -> usize
-    requires { (0 < length bytes.now) × (0 < length room.old) }
-    ensures count { (0 < result) × (result ≤ length room.old) × (result ≤ length bytes.now) }
-    ensures copied { take result room.new ≡ take result bytes.now }
-    ensures room { length room.new ≡ length room.old }
+// Keeps what a read gave, if there is memory for it.
+fn keep_read<R>(reports: &mut LineReports<'_, R>, line: &mut Vec<u8>, room: &[u8], took: Take)
+    requires { IsLineGiven room.now took }
 {
-    let line = match bytes.iter().position(|byte| *byte == LINE_END) {
-        Some(end) => end + 1,
-        None => bytes.len(),
-    };
-    let count = line.min(room.len());
-    room[..count].copy_from_slice(&bytes[..count]);
-    count
+    if let Take::Got(n) = took {
+        keep(reports, line, &room[..n]);
+    }
 }
 
 impl<'a, F: Read + Drop, R> LineInlet<'a, F, R> {
@@ -50,10 +45,27 @@ impl<'a, F: Read + Drop, R> LineInlet<'a, F, R> {
             return Err(AllocError);
         };
         Ok(LineInlet {
-            reports: LineReports::new(rt, alloc, answers, name, u64::MAX),
+            reports: LineReports::new(rt, name, u64::MAX),
+            answers,
+            line: Vec::new(alloc),
             reader,
             given: Given::new(),
         })
+    }
+}
+
+// Keeps a part of a line, if there is memory for it, and counts the line if it begins here.
+fn keep<R>(reports: &mut LineReports<'_, R>, line: &mut Vec<u8>, part: &[u8]) {
+    let is_begun = match line.last() {
+        Some(last) => *last != LINE_END,
+        None => reports.number() > 0,
+    };
+    if !is_begun {
+        line.clear();
+        reports.add(1);
+    }
+    if line.extend_from_slice(part).is_err() {
+        line.clear();
     }
 }
 
@@ -72,13 +84,30 @@ fn read_line<F: Read + Drop>(reader: &mut BufReader<F>, room: &mut [u8]) -> Take
     Take::Got(count)
 }
 
+// Copies bytes to the front of a room, up to the first LF, the last byte or the end of the room. Returns how many.
+fn copy_line(bytes: &[u8], room: &mut [u8]) -> usize
+    requires { (0 < length bytes.now) × (0 < length room.old) }
+    ensures count { (0 < result) × (result ≤ length room.old) × (result ≤ length bytes.now) }
+    ensures copied { take result room.new ≡ take result bytes.now }
+    ensures room { length room.new ≡ length room.old }
+{
+    let line = match bytes.iter().position(|byte| *byte == LINE_END) {
+        Some(end) => end + 1,
+        None => bytes.len(),
+    };
+    let count = line.min(room.len());
+    room[..count].copy_from_slice(&bytes[..count]);
+    count
+}
+
 impl<F: Read + Drop, R: Clock + Eprint> Inlet for LineInlet<'_, F, R> {
     ghost seen = { λ i. i.given };
 
     fn take(&mut self, room: &mut [u8]) -> Take {
-        self.reports.report();
+        let answer = self.answers.take();
+        self.reports.report(answer.as_slice(), self.line.as_slice());
         let took = read_line(&mut self.reader, room);
-        self.reports.keep_read(room, took);
+        keep_read(&mut self.reports, &mut self.line, room, took);
         self.given.note(room, took);
         took
     }

@@ -1,11 +1,6 @@
 //! Reports of the lines of a file that were refused.
-ghost use Rattle.heap_console.specs.Lines.{IsLineGiven};
-
 use crate::columns::LINE_END;
 use crate::line_count::LineCount;
-use crate::newest::NewestLine;
-use session_text::Take;
-use std::alloc::Global;
 use std::str;
 use std::time::Clock;
 
@@ -14,9 +9,7 @@ use std::time::Clock;
 #[derive(Drop)]
 pub struct LineReports<'a, R> {
     rt: &'a R,
-    answers: &'a NewestLine,
     name: &'a str,
-    line: Vec<u8>,
     number: u64,
     // How many more refused lines may be reported, and how many are not reported.
     left: u64,
@@ -29,21 +22,39 @@ fn text_of(line: &[u8]) -> &str {
     str::from_utf8(line).unwrap_or("").trim_end()
 }
 
+// Tells whether a line that has this answer was refused or is no command.
+fn is_refusal(answer: &str) -> bool {
+    answer.starts_with("no ") || answer == "bad command"
+}
+
+// Tells whether there may be a refusal among answers: each has an `n`, which most other answers of a session of a dump don't have.
+fn may_refuse(answers: &[u8]) -> bool {
+    answers.contains(&b'n')
+}
+
+// Counts the lines of some bytes that have an end.
+fn lines_in(bytes: &[u8]) -> u64 {
+    bytes.iter().filter(|byte| **byte == LINE_END).count() as u64
+}
+
+// Returns a line of some lines, by its number from 0 on, or nothing if there are fewer.
+fn line_at(lines: &[u8], n: u64) -> &[u8] {
+    let mut number: u64 = 0;
+    for line in lines.split(|byte| *byte == LINE_END) {
+        if number == n {
+            return line;
+        }
+        number = number.saturating_add(1);
+    }
+    b""
+}
+
 impl<'a, R> LineReports<'a, R> {
     /// Creates the reports of a file of which no line was read, which they call by this name: at most this many lines are reported.
-    /// `answers` has the newest line that the session wrote. Takes no memory yet.
-    pub fn new(
-        rt: &'a R,
-        alloc: Global,
-        answers: &'a NewestLine,
-        name: &'a str,
-        most: u64,
-    ) -> LineReports<'a, R> {
+    pub fn new(rt: &'a R, name: &'a str, most: u64) -> LineReports<'a, R> {
         LineReports {
             rt,
-            answers,
             name,
-            line: Vec::new(alloc),
             number: 0,
             left: most,
             unreported: 0,
@@ -51,9 +62,14 @@ impl<'a, R> LineReports<'a, R> {
         }
     }
 
-    // Returns the newest line that the session wrote.
-    pub(crate) fn answers(&self) -> &'a NewestLine {
-        self.answers
+    // Returns how many lines were counted.
+    pub(crate) fn number(&self) -> u64 {
+        self.number
+    }
+
+    // Counts lines.
+    pub(crate) fn add(&mut self, lines: u64) {
+        self.number = self.number.saturating_add(lines);
     }
 }
 
@@ -72,19 +88,55 @@ impl<R: Clock + Eprint> LineReports<'_, R> {
         }
     }
 
-    // Reports the newest line, if it was refused or no command, and shows how many lines were read, if it is time.
-    pub(crate) fn report(&mut self) {
-        self.report_newest();
+    // Reports the line that was counted last, if its answer tells that it was refused or no command, and shows how many lines were
+    // read, if it is time.
+    pub(crate) fn report(&mut self, answer: &[u8], line: &[u8]) {
+        let answer = text_of(answer);
+        if is_refusal(answer) {
+            self.report_refusal(answer, line);
+        }
         self.count.show(self.number);
     }
 
-    // Reports the newest line, with its answer, if it was refused or no command and may be reported.
-    fn report_newest(&mut self) {
-        let answers = self.answers.take();
-        let answer = text_of(answers.as_slice());
-        if !answer.starts_with("no ") && answer != "bad command" {
-            return;
+    // Counts the lines that have these answers, a line each, reports those that were refused or no command, and shows how many
+    // lines were answered, if it is time. The lines are among these, of which the first is that after the first `before` of all.
+    pub(crate) fn report_all(&mut self, answers: &[u8], lines: &[u8], before: u64) {
+        if may_refuse(answers) {
+            self.report_each(answers, lines, before);
+        } else {
+            self.add(lines_in(answers));
         }
+        self.count.show_now(self.number);
+    }
+
+    // Counts lines and reports them as `report_all` does, one by one.
+    fn report_each(&mut self, answers: &[u8], lines: &[u8], before: u64) {
+        for answer in answers.split(|byte| *byte == LINE_END) {
+            let answer = text_of(answer);
+            if answer.is_empty() {
+                continue;
+            }
+            let n = self.number.saturating_sub(before);
+            self.add(1);
+            if is_refusal(answer) {
+                self.report_at(answer, lines, n);
+            }
+        }
+    }
+
+    // Reports the line that was counted last, which was refused or is no command, and is line n of these.
+    fn report_at(&mut self, answer: &str, lines: &[u8], n: u64) {
+        // Only a line that is reported is looked for.
+        let line = if self.left > 0 {
+            line_at(lines, n)
+        } else {
+            b""
+        };
+        self.report_refusal(answer, line);
+    }
+
+    // Reports the line that was counted last, which was refused or is no command, with its answer, if it may be reported.
+    fn report_refusal(&mut self, answer: &str, line: &[u8]) {
         if self.left == 0 {
             self.unreported = self.unreported.saturating_add(1);
             return;
@@ -92,43 +144,19 @@ impl<R: Clock + Eprint> LineReports<'_, R> {
         self.left = self.left.saturating_sub(1);
         self.count.leave();
         let (name, number) = (self.name, self.number);
-        let text = text_of(self.line.as_slice());
+        let text = text_of(line);
         let _ = eprintln!(self.rt; "heapdbg: {name}:{number}: {answer}: {text}");
     }
 
-    // Reports the newest line with the reason why none was read after it.
+    // Reports the line that was counted last with the reason why none was read after it.
     pub(crate) fn report_end(&self, reason: &str) {
         let (name, number) = (self.name, self.number);
         let _ = eprintln!(self.rt; "heapdbg: {name}:{number}: {reason}");
     }
 
-    // Reports with the newest line that no more reads were allowed than these.
+    // Reports with the line that was counted last that no more reads were allowed than these.
     pub(crate) fn report_reads(&self, most: u64) {
         let (name, number) = (self.name, self.number);
         let _ = eprintln!(self.rt; "heapdbg: {name}:{number}: a session has at most {most} reads");
-    }
-
-    // Keeps a part of a line, if there is memory for it, and counts the line if it begins here.
-    fn keep(&mut self, part: &[u8]) {
-        let is_begun = match self.line.last() {
-            Some(last) => *last != LINE_END,
-            None => self.number > 0,
-        };
-        if !is_begun {
-            self.line.clear();
-            self.number = self.number.saturating_add(1);
-        }
-        if self.line.extend_from_slice(part).is_err() {
-            self.line.clear();
-        }
-    }
-
-    // Keeps what a read gave, if there is memory for it.
-    pub(crate) fn keep_read(&mut self, room: &[u8], took: Take)
-        requires { IsLineGiven room.now took }
-    {
-        if let Take::Got(n) = took {
-            self.keep(&room[..n]);
-        }
     }
 }

@@ -1,15 +1,14 @@
 //! An outlet that runs the lines that it takes.
-ghost use Rattle.std.specs.Prelude.{◌≡◌, ◌<◌, ◌≤◌, [], Some, IfErr, IfOk, length, true};
+ghost use Rattle.std.specs.Prelude.{◌≡◌, [], Some, IfErr, IfOk, length, true};
 ghost use Rattle.session_text.specs.Answers.{AnswersCommand, Begins};
 ghost use Rattle.session_text.specs.declared.Ended.TheVariants.{Eof};
 ghost use Rattle.heap_console.specs.Loads.{AreLinesRun, IsLoadEnded, IsTextLoadedFrom};
 
-use crate::columns::LINE_END;
+use crate::answer_reports::AnswerReports;
 use crate::discard::Discard;
 use crate::line_reports::LineReports;
 use crate::load::report_ending;
-use crate::newest::NotingOutlet;
-use crate::text_inlet::TextInlet;
+use crate::text_inlet::{TextInlet, whole_lines};
 use dump_pump::ghost_list::note_bytes;
 use dump_pump::{Log, Outlet, Put};
 use session_text::{Commands, Ended, SessionLimits, serve};
@@ -152,16 +151,6 @@ fn is_open(ended: Ended) -> bool
     matches!(ended, Ended::Eof)
 }
 
-// Returns the length of the whole lines at the front.
-fn whole_lines(bytes: &[u8]) -> usize
-    ensures { result ≤ length bytes.now }
-{
-    match bytes.iter().rposition(|byte| *byte == LINE_END) {
-        Some(end) => end + 1,
-        None => 0,
-    }
-}
-
 // Runs lines as a session, whose answers go nowhere. Returns how it ended: at their end if all were run.
 fn run_lines<R: Clock + Eprint, C: Commands>(
     alloc: Global,
@@ -174,8 +163,8 @@ fn run_lines<R: Clock + Eprint, C: Commands>(
     ensures { AreLinesRun limits (AnswersCommand C.acts C.unknown time) lines.now
         (Some commands.old) commands.new result }
 {
-    let mut answers = NotingOutlet::new(Discard::new(), reports.answers());
-    let mut inlet = TextInlet::new(reports, lines);
+    let mut answers = AnswerReports::new(Discard::new(), reports, lines);
+    let mut inlet = TextInlet::new(lines);
     serve(alloc, &mut inlet, &mut answers, commands, time, limits)
 }
 

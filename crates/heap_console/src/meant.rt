@@ -1,9 +1,8 @@
 //! Lines that a person means by others: `quit`, `exit`, `q` and `?`.
-ghost use Rattle.std.specs.Prelude.{◌≡◌, ◌<◌, ◌≤◌, ◌++◌, ◌∷◌, [], IfSome, length, option_map, take};
-ghost use Rattle.session_grammar.specs.Grammar.{words_of_line};
+ghost use Rattle.std.specs.Prelude.{◌≡◌, ◌<◌, ◌≤◌, IfSome, length, option_map, take};
 ghost use Rattle.dump_pump.specs.declared.inlet.Take.TheVariants.{Got};
 ghost use Rattle.heap_console.specs.Lines.{IsLineGiven};
-ghost use Rattle.heap_console.specs.Meant.{IsMeant, IsMeantLine, meant_by, meant_word, meant_words};
+ghost use Rattle.heap_console.specs.Meant.{IsMeant, IsMeantLine, meant_by, meant_word};
 
 use crate::columns::LINE_END;
 use session_grammar::by_word;

@@ -1,5 +1,4 @@
 //! The log of a session.
-ghost use Rattle.std.specs.Prelude.{◌≡◌};
 
 use crate::columns::LINE_END;
 use dump_pump::{Outlet, Put};

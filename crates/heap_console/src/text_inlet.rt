@@ -1,23 +1,20 @@
-//! An inlet that gives lines in memory one by one, and reports those that were refused.
-ghost use Rattle.std.specs.Prelude.{◌≡◌, []};
+//! An inlet that gives lines in memory.
+ghost use Rattle.std.specs.Prelude.{◌≡◌, ◌<◌, ◌≤◌, [], length, take};
 
+use crate::columns::LINE_END;
 use crate::given::Given;
-use crate::line_inlet::copy_line;
-use crate::line_reports::LineReports;
 use session_text::{Inlet, Take};
 use std::marker::Model;
-use std::time::Clock;
 
-// An inlet over bytes in memory, which gives at most a line at a read, and reports the last line before if that was refused or no
-// command. No read fails. Contracts see the bytes that it gave, those that are left, and the number of bytes of each read.
+// An inlet over lines in memory, which gives as many whole lines at a read as there is room for. No read fails. Contracts see the
+// bytes that it gave, those that are left, and the number of bytes of each read.
 #[derive(Drop)]
-pub(crate) struct TextInlet<'a, 't, R> {
-    reports: &'t mut LineReports<'a, R>,
+pub(crate) struct TextInlet<'t> {
     rest: &'t [u8],
     given: Given,
 }
 
-impl<'a, 't, R> Model for TextInlet<'a, 't, R> {
+impl<'t> Model for TextInlet<'t> {
     ghost use Rattle.std.specs.Prelude.{ℕ, List};
 
     ghost Value = { List ℕ × (List ℕ × List ℕ) };
@@ -25,34 +22,58 @@ impl<'a, 't, R> Model for TextInlet<'a, 't, R> {
     ghost view = { λ i. (i.given.taken, (i.rest.now, i.given.reads)) };
 }
 
-impl<'a, 't, R> TextInlet<'a, 't, R> {
+impl<'t> TextInlet<'t> {
     // Creates an inlet that has given none of these bytes.
-    pub(crate) fn new(reports: &'t mut LineReports<'a, R>, bytes: &'t [u8]) -> TextInlet<'a, 't, R>
+    pub(crate) fn new(bytes: &'t [u8]) -> TextInlet<'t>
         ensures { result ≡ ([], (bytes.now, [])) }
     {
         TextInlet {
-            reports,
             rest: bytes,
             given: Given::new(),
         }
     }
 }
 
-impl<R: Clock + Eprint> Inlet for TextInlet<'_, '_, R> {
+// Returns the length of the whole lines at the front.
+pub(crate) fn whole_lines(bytes: &[u8]) -> usize
+    ensures { result ≤ length bytes.now }
+{
+    match bytes.iter().rposition(|byte| *byte == LINE_END) {
+        Some(end) => end + 1,
+        None => 0,
+    }
+}
+
+// Copies whole lines to the front of a room, as many as it has room for, or as much as it has room for of the first. Returns how
+// many bytes.
+fn copy_lines(bytes: &[u8], room: &mut [u8]) -> usize
+    requires { (0 < length bytes.now) × (0 < length room.old) }
+    ensures count { (0 < result) × (result ≤ length room.old) × (result ≤ length bytes.now) }
+    ensures copied { take result room.new ≡ take result bytes.now }
+    ensures room { length room.new ≡ length room.old }
+{
+    let most = bytes.len().min(room.len());
+    let count = match whole_lines(&bytes[..most]) {
+        0 => most,
+        lines => lines,
+    };
+    room[..count].copy_from_slice(&bytes[..count]);
+    count
+}
+
+impl Inlet for TextInlet<'_> {
     ghost use Rattle.std.specs.Prelude.{Some};
 
     ghost seen = { λ i. record { taken = i.0; left = Some i.1.0; reads = i.1.1; failures = 0 } };
 
     fn take(&mut self, room: &mut [u8]) -> Take {
-        self.reports.report();
         if self.rest.is_empty() {
             self.given.note(room, Take::End);
             return Take::End;
         }
-        let count = copy_line(self.rest, room);
+        let count = copy_lines(self.rest, room);
         self.rest = &self.rest[count..];
         let took = Take::Got(count);
-        self.reports.keep_read(room, took);
         self.given.note(room, took);
         took
     }

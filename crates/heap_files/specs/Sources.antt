@@ -1,5 +1,5 @@
 -- Lines of files that are run in a session, and logs.
-use Rattle.std.specs.Prelude.{◌≡◌, ◌⊎◌, ⊤, ℕ, Bool, List, [], ◌++◌, codes, true, false, Option, Some, None, if◌then◌else◌}
+use Rattle.std.specs.Prelude.{◌≡◌, ◌⊎◌, ℕ, Bool, List, [], ◌++◌, codes, true, false, Some, None}
 use Rattle.std.specs.Str.{bytes_eq}
 use Rattle.heap_class.specs.declared.Refusal.TheVariants.{NoMemory}
 use Rattle.dump_pump.specs.Inlets.{Incoming}

@@ -1,11 +1,10 @@
 //! The answers to requests.
-ghost use Rattle.std.specs.Prelude.{◌≡◌, [], IfOk, OnOk, OnErr, Some, length};
+ghost use Rattle.std.specs.Prelude.{◌≡◌, [], OnOk, OnErr, Some, length};
 ghost use Rattle.session_text.specs.Replies.{line_answer_text};
 ghost use Rattle.question_text.specs.Answers.{IsAnswerOfLine};
 ghost use Rattle.question_grammar.specs.Bookmarks.{no_bookmarks};
 ghost use Rattle.question_grammar.specs.Questions.{at_of_word};
 ghost use Rattle.http_server.specs.Response.{IsBlank, IsResponse};
-ghost use Rattle.heap_class.specs.Table.{refusal_name};
 ghost use Rattle.heap_page.specs.PageAnswers.{IsAnswerResponse, IsDumpResponse, IsImageResponse, IsLineResponse, IsRefusalResponse, IsResponseTo, dump_status, fixed_fields, page_fields, text_fields, typed_fields};
 ghost use Rattle.question_words.specs.Moments.{image_at};
 
@@ -15,7 +14,7 @@ use crate::terms::PageTerms;
 use bytes::Bytes;
 use heap_class::Refusal;
 use heap_lock::{Heap, Kept, Machine, Shared, Witness};
-use http::{HeaderName, HeaderValue, Request, StatusCode, header};
+use http::{HeaderName, HeaderValue, Request, StatusCode};
 use http_server::{Response, Service};
 use question_grammar::{Bookmarks, at_of};
 use question_text::{answer_line, dump_at};

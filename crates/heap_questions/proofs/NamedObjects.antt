@@ -1,5 +1,5 @@
 -- The object with an id, passed by others.
-use Rattle.std.proofs.Common.{◌≡◌, ◌≢◌, ℕ, ◌+◌, ◌<◌, ◌≤◌, List, [], length, replicate, get_or, refl, sym, ap, ap₂, ◌∙◌, subst, inl, inr, arith}
+use Rattle.std.proofs.Common.{◌≡◌, ◌≢◌, ℕ, ◌+◌, ◌<◌, ◌≤◌, List, [], length, replicate, get_or, refl, sym, ap, ◌∙◌, subst, inl, inr, arith}
 use Rattle.std.specs.Prelude.{slice_get, Contains, Option, Some, None, IfSome, IsSome, option_map, ◌==◌}
 use Rattle.std.specs.List.{position_or_len}
 use Rattle.std.proofs.lemmas.Bool.{cases_eq, eq-eqb, ne_eqb}
@@ -15,7 +15,6 @@ use Rattle.hprof_text.specs.Image.{Image, DumpedObject, IsDumpable}
 use Rattle.hprof_text.proofs.Loops.{item_of_list_within}
 use Rattle.hprof_text.proofs.ViewedObjects.{IsHere, here, is_there}
 use Rattle.heap_questions.specs.Graph.{object_with}
-use Rattle.heap_questions.specs.Referrers.{dumped}
 use Rattle.heap_questions.specs.Search.{AreNodes, node_with}
 use Rattle.heap_questions.specs.declared.nodes.Node.{Node}
 use Rattle.heap_questions.proofs.NodePlaces.{as_many, node_at, node_of_object, node_place, node_within, object_of_node}

@@ -1,26 +1,24 @@
 -- What a record tells of the regions before its step.
-use Rattle.std.proofs.Common.{◌≡◌, ◌≢◌, ◌⊎◌, ℕ, zero, suc, add-one, ◌+◌, ◌-◌, ◌<◌, ◌≤◌, Bool, true, false, not, cond, List, [], ◌∷◌, ◌++◌, length, map, get_or, set, take, fold, Option, Some, None, refl, sym, ap, ap₂, ◌∙◌, subst, inl, inr, arith}
-use Rattle.std.specs.Prelude.{IfSome, count_by, option_and_then, option_map, slice_get, slice_index_or}
+use Rattle.std.proofs.Common.{◌≡◌, ℕ, zero, suc, add-one, ◌+◌, ◌-◌, ◌<◌, ◌≤◌, Bool, true, false, not, cond, List, [], ◌∷◌, ◌++◌, length, map, get_or, set, take, fold, Option, Some, None, refl, sym, ap, ap₂, ◌∙◌, subst, inl, inr, arith}
+use Rattle.std.specs.Prelude.{IfSome, count_by, option_and_then, option_map}
 use Rattle.std.specs.Option.{option_map_or}
 use Rattle.std.proofs.lemmas.Bool.{cases_Bool, false≢true}
-use Rattle.std.proofs.lemmas.List.{map-id, map-set}
+use Rattle.std.proofs.lemmas.List.{map-set}
 use Rattle.std.proofs.lemmas.List.Sums.{sum_by-cons}
 use Rattle.std.proofs.lemmas.Option.{get_or_from_slice_get, none-some, same_Some, slice_get_within}
-use Rattle.heap_class.specs.declared.ObjKind.{ObjKind}
 use Rattle.heap_class.specs.declared.ObjRef.{ObjRef}
-use Rattle.heap_region.specs.Legal.{IsCellTable}
 use Rattle.heap_region.specs.Live.{is_dead, is_live}
 use Rattle.heap_region.specs.Pool.{cell_freed, freed, released, restored, unallocated}
 use Rattle.heap_region.specs.Regions.{Empty, InUse, Object, Region, UsedRegion, cell_object, in_used, object_at, ref_of, slot_object, updated, used_at, used_part, with_mark, with_object, with_region, with_word}
 use Rattle.heap_region.proofs.Lookups.{used_region_after_its_change}
 use Rattle.heap_region.proofs.References.{set_item_is_got}
 use Rattle.heap_region.proofs.ShownRegions.{object_of_used}
-use Rattle.heap_world.specs.Events.{after_new, after_sweep, new_object}
+use Rattle.heap_world.specs.Events.{after_sweep, new_object}
 use Rattle.heap_world.specs.Legal.{IsLegal}
 use Rattle.heap_world.specs.MarkSteps.{MarkState, each_object, each_region, undrained, unfinished, unfinished_region, unmarked, unshaded, unsnapped, with_mark_of}
 use Rattle.heap_world.specs.State.{HeapState, marking_of, pool_of}
 use Rattle.heap_world.specs.Sweep.{dead_at, dead_cells, is_emptied, live_part, swept, swept_region, unswept, unswept_region}
-use Rattle.heap_world.proofs.SweptCells.{cell_table_has_few_cells, dead_length, dead_pairs}
+use Rattle.heap_world.proofs.SweptCells.{cell_table_has_few_cells, dead_length}
 use Rattle.heap_step.specs.declared.Event.{Event}
 use Rattle.heap_step.specs.declared.Undo.{Undo}
 use Rattle.heap_step.specs.declared.Undo.TheVariants.{Class, Drain, Finish, Mark, New, Put, Reclaim, Reg, Snap, Store, Sweep}
@@ -29,11 +27,9 @@ use Rattle.heap_step.specs.Records.{undone}
 use Rattle.heap_step.proofs.EventLaws.{undo_restores}
 use Rattle.heap_step.proofs.Places.{new_object_stands_at_place}
 use Rattle.heap_step.proofs.Steps.{reclaim_empty, reclaim_inhabited, reclaim_is, reclaim_lifeless, sweep_before, sweep_is}
-use Rattle.heap_questions.specs.PastTrails.{storage_cell_size}
 use Rattle.heap_questions.specs.RegionCounts.{counts_of}
 use Rattle.heap_questions.specs.RegionSummaries.{HaveFew, all_live, one_fewer, summaries, summaries_before, summary_of, taken_out, with_dead_back, with_summary}
 use Rattle.heap_questions.specs.declared.past.summaries.RegionSummary.{RegionSummary}
-use Rattle.heap_questions.specs.declared.region_counts.RegionCounts.{RegionCounts}
 use Rattle.heap_questions.proofs.EndedCycles.{by_record, new_at}
 use Rattle.heap_questions.proofs.Sizes.{table_of, whole_size}
 use Rattle.heap_questions.proofs.ToldObjects.{one_before}

@@ -1,5 +1,5 @@
 -- What is told of the regions of a state, and what a record tells of it.
-use Rattle.std.specs.Prelude.{◌≡◌, ℕ, ◌+◌, ◌-◌, ◌≤◌, Bool, true, false, List, length, map, Option, Some, None, option_map, slice_index_or, slice_set, if◌then◌else◌}
+use Rattle.std.specs.Prelude.{◌≡◌, ℕ, ◌+◌, ◌-◌, ◌≤◌, true, false, List, length, map, Option, Some, None, option_map, slice_index_or, slice_set, if◌then◌else◌}
 use Rattle.heap_region.specs.Limits.{cell_limit}
 use Rattle.heap_region.specs.Regions.{Region, UsedRegion, used_part}
 use Rattle.heap_step.specs.declared.Undo.{Undo}

@@ -32,7 +32,7 @@ pub fn first_of_paths_is_path()
 
 /// Returns `most` paths to the object with this id, of which no two start at the same register by the same slot, or as many as
 /// there are: each is the shortest that starts like none of those before it, of all such the first by register, then by slot.
-/// Fails with NoMemory. Reads each object twice, those that registers name once more, and for each path the objects along it.
+/// Fails with NoMemory. Reads each object three times, those that registers name once more, and for each path the objects along it.
 pub fn paths_apart<V: View>(
     alloc: Global,
     view: &V,
@@ -303,7 +303,7 @@ fn path_by_slot<V: View>(
 }
 
 // Finds what is reached by the starts of none of these paths, until a node was found that is the goal. The nodes must be the
-// view's. Fails with NoMemory. Reads each object at most once, and once more for each register that names it.
+// view's. Fails with NoMemory. Reads each object at most twice, and once more for each register that names it.
 fn search_starts<V: View>(
     alloc: Global,
     view: &V,

@@ -1,8 +1,8 @@
 //! What differs between the objects of two views.
-ghost use Rattle.std.specs.Prelude.{◌≡◌, ◌++◌, ◌∷◌, ◌<◌, [], flat_map, length, map, slice_index, IfOk, IfErr, OnOk};
+ghost use Rattle.std.specs.Prelude.{◌≡◌, ◌++◌, ◌∷◌, ◌<◌, [], length, slice_index, IfOk, IfErr, OnOk};
 ghost use Rattle.heap_class.specs.declared.Refusal.TheVariants.{NoMemory};
 ghost use Rattle.hprof_text.specs.Image.{IsKnown};
-ghost use Rattle.heap_questions.specs.Differences.{AreDifferences, AreIdsOfBoth, IsKnownIf, changes_of_slots, differences_between, differences_of, differences_of_two, is_like, slot_seen};
+ghost use Rattle.heap_questions.specs.Differences.{AreDifferences, AreIdsOfBoth, IsKnownIf, changes_of_slots, differences_between, differences_of_two, is_like, slot_seen};
 ghost use Rattle.heap_questions.specs.Graph.{object_with};
 
 use crate::index::ObjectIndex;

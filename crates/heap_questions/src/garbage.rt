@@ -18,7 +18,7 @@ pub(crate) fn is_reached(nodes: &NodeList, seen: &[bool], id: u64) -> bool
 }
 
 /// Counts the objects of a view that no register reaches, in the rows in which `count_by_class` counts all. Fails with
-/// NoMemory if an allocation fails. Reads each object at most twice.
+/// NoMemory if an allocation fails. Reads each object at most three times.
 pub fn count_garbage<V: View>(alloc: Global, view: &V) -> Result<Histogram, Refusal>
     ensures rows { IfOk result (λ h. IsGarbage (V.ids view.now) (V.image view.now) h) }
     ensures refused { IfErr result (λ e. e ≡ NoMemory) }

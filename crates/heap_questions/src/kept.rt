@@ -13,7 +13,7 @@ use std::alloc::Global;
 
 /// Counts the objects of the newer view that registers reach there and whose ids no object of the older view has, in the rows in
 /// which `count_by_class` counts all. Fails with NoMemory if an allocation fails. Reads each object of the newer view at most
-/// three times, and each id of the older view once.
+/// four times, and each id of the older view once.
 pub fn count_kept<V: View>(alloc: Global, older: &V, newer: &V) -> Result<Histogram, Refusal>
     ensures rows { IfOk result
         (λ h. AreKept (V.ids newer.now) (V.image older.now) (V.image newer.now) h) }

@@ -1,6 +1,7 @@
 //! Exact answers about the heap that a view shows, of the current state or of a pin, and about the past that a machine retains.
 #![tactic(auto)]
 
+mod ahead;
 mod apart;
 mod back;
 mod cells;

@@ -23,7 +23,7 @@ pub struct ListedObject {
 }
 
 /// Lists the objects of a view that are wanted, in the order of a dump. Fails with NoMemory if an allocation fails. Reads each
-/// object at most twice.
+/// object at most three times.
 pub fn list_wanted<V: View>(
     alloc: Global,
     view: &V,
@@ -87,7 +87,7 @@ fn push_wanted(
 }
 
 /// Lists the objects of a view, in the order of a dump. Fails with NoMemory if an allocation fails. Reads each object at most
-/// twice.
+/// three times.
 pub fn list_objects<V: View>(alloc: Global, view: &V) -> Result<Vec<ListedObject>, Refusal>
     ensures all { IfOk result (λ all. IsObjectList (V.image view.now) all.items) }
     ensures refused { IfErr result (λ e. e ≡ NoMemory) }

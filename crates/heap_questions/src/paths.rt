@@ -39,7 +39,7 @@ pub(crate) struct WayBack {
 }
 
 /// Returns a shortest path from a register to the object with this id, or None if no register reaches one: of all the shortest
-/// the first by register, then by slot. Reads each object at most twice. Fails with NoMemory.
+/// the first by register, then by slot. Reads each object at most three times. Fails with NoMemory.
 pub fn shortest_path<V: View>(alloc: Global, view: &V, id: u64) -> Result<Option<Path>, Refusal>
     ensures path { IfOk result (λ found. IfSome found (λ p.
         IsPathTo (V.image view.now) p.register (slots_of p.hops.items) id)) }

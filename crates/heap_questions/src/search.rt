@@ -4,6 +4,7 @@ ghost use Rattle.heap_class.specs.declared.Refusal.TheVariants.{NoMemory};
 ghost use Rattle.hprof_text.specs.Image.{Image, object_limit};
 ghost use Rattle.heap_questions.specs.Search.{AreAllSeen, AreNodes, HasEnded, HasGoneOn, HasSearchedFor, IsEnteredIn, IsOneFurther, IsSearch, IsSearchFromSome, IsSearching, is_found};
 
+use crate::ahead::look_ahead;
 use crate::nodes::NodeList;
 use crate::references::is_reference_slot;
 use heap_class::Refusal;
@@ -28,11 +29,13 @@ pub(crate) struct Entry {
 // A search has one for each object that it found.
 const _: () = prove!(size_of::<Entry>() <= 8);
 
-// What the registers reach: which nodes were found, and how, in the order in which they were.
+// What the registers reach: which nodes were found, and how, in the order in which they were. `read` is the sum of the words that
+// were read ahead.
 #[derive(Drop)]
 pub(crate) struct Reach {
     pub(crate) seen: Vec<bool>,
     pub(crate) queue: Vec<Entry>,
+    read: u64,
 }
 
 // Returns the entry at this place of a queue.
@@ -44,7 +47,7 @@ pub(crate) fn entry_at(queue: &[Entry], index: usize) -> Entry
 }
 
 // Finds what the registers reach, breadth first: all of it, or until a node was found that is the goal. The nodes must be the
-// view's. Fails with NoMemory. Reads each object at most once.
+// view's. Fails with NoMemory. Reads each object at most twice.
 pub(crate) fn search<V: View>(
     alloc: Global,
     view: &V,
@@ -96,7 +99,8 @@ fn find_roots<V: View>(view: &V, nodes: &NodeList, reach: &mut Reach) -> Result<
 }
 
 // Goes on with a search that has begun, from whichever registers: until all is found, or a node that is the goal. Fails with
-// NoMemory. Reads each object at most once.
+// NoMemory. Reads each object at most twice.
+#[inline(never)]
 pub(crate) fn search_on<V: View>(
     view: &V,
     nodes: &NodeList,
@@ -113,6 +117,8 @@ pub(crate) fn search_on<V: View>(
 {
     let mut head = 0;
     while goes_on(reach, head, goal) {
+        let sum = look_ahead(view, nodes, reach.queue.as_slice(), head);
+        reach.read = reach.read.wrapping_add(sum);
         expand(view, nodes, reach, head)?;
         head += 1;
     }
@@ -166,7 +172,11 @@ pub(crate) fn nothing_found(alloc: Global, nodes: &NodeList) -> Result<Reach, Re
 {
     let seen = vec![in alloc; false; nodes.len()]?;
     let queue = Vec::with_capacity(alloc, nodes.len())?;
-    Ok(Reach { seen, queue })
+    Ok(Reach {
+        seen,
+        queue,
+        read: 0,
+    })
 }
 
 // Adds an object to what was found, unless it was found before or there is none with this id. Fails with NoMemory.

@@ -1,5 +1,5 @@
 //! Seats that serve one client after another, over a heap whose collector is tended in two threads.
-ghost use Rattle.std.specs.Prelude.{◌≡◌, ◌∷◌, IfOk, length};
+ghost use Rattle.std.specs.Prelude.{◌∷◌, IfOk, length};
 ghost use Rattle.heap_server.specs.Staying.{AreStays};
 ghost use Rattle.heap_server.specs.Tending.{AreStaff, MarkRuns, SweepRuns};
 

@@ -3,7 +3,6 @@ use Rattle.std.proofs.Common.{◌≡◌, ◌≢◌, ◌⊎◌, ℕ, zero, ◌<�
 use Rattle.std.specs.Prelude.{slice_get, slice_index, option_map, option_and_then, nat_lt}
 use Rattle.std.proofs.lemmas.Bool.{and_from, lt-ltb, lt-leb, le-ltb, not_from_true}
 use Rattle.heap_class.specs.declared.Kind.{Kind}
-use Rattle.heap_class.specs.declared.ObjKind.TheVariants.{Prim}
 use Rattle.heap_class.specs.declared.Refusal.{Refusal}
 use Rattle.heap_class.specs.declared.Refusal.TheVariants.{HeapFull}
 use Rattle.heap_class.specs.Classes.{Class, is_array_class, is_instance_class, slot_kinds_of, slots_of}

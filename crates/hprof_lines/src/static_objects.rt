@@ -1,5 +1,5 @@
 //! The objects of static fields.
-ghost use Rattle.std.specs.Prelude.{◌≡◌, ◌≤◌, ◌<◌, ◌^◌, ◌++◌, length, OnOk};
+ghost use Rattle.std.specs.Prelude.{◌≡◌, ◌<◌, ◌^◌, ◌++◌, OnOk};
 ghost use Rattle.hprof_session.specs.Places.{lines_of};
 ghost use Rattle.hprof_lines.specs.Objects.{objects_told};
 ghost use Rattle.hprof_lines.specs.Outputs.{Writes};

@@ -1,5 +1,5 @@
 //! The lines that write the slots of objects of the second dump.
-ghost use Rattle.std.specs.Prelude.{◌≡◌, ◌≤◌, ◌<◌, ◌^◌, ◌++◌, flat_map, length, nat_eq, slice_index_or, OnOk};
+ghost use Rattle.std.specs.Prelude.{◌≡◌, ◌≤◌, ◌<◌, ◌++◌, flat_map, length, nat_eq, slice_index_or, OnOk};
 ghost use Rattle.std.specs.Option.{option_eq};
 ghost use Rattle.indexmap.specs.IndexMap.{index_map_len};
 ghost use Rattle.hprof_session.specs.Places.{lines_of};

@@ -1,5 +1,5 @@
 //! The objects of a dump, by their numbers: first those of static fields, then those of the dump in its order.
-ghost use Rattle.std.specs.Prelude.{◌≡◌, ◌≤◌, ◌<◌, ◌^◌, ◌++◌, ◌-◌, List, length, map, nat_lt, slice_get, option_map, IfOk, OnOk};
+ghost use Rattle.std.specs.Prelude.{◌≡◌, ◌≤◌, ◌<◌, ◌++◌, List, length, map, option_map, IfOk, OnOk};
 ghost use Rattle.indexmap.specs.IndexMap.{index_map_len};
 ghost use Rattle.hprof_reader.specs.SubRecords.{sub_record};
 ghost use Rattle.hprof_session.specs.Walks.{ItemTold, item_told, left};

@@ -1,5 +1,5 @@
 //! The lines by which objects are kept, found again and made.
-ghost use Rattle.std.specs.Prelude.{◌≡◌, ◌≤◌, ◌<◌, ◌^◌, ◌++◌, flat_map, length, OnOk};
+ghost use Rattle.std.specs.Prelude.{◌≡◌, ◌≤◌, ◌<◌, ◌++◌, flat_map, length, OnOk};
 ghost use Rattle.indexmap.specs.IndexMap.{index_map_len};
 ghost use Rattle.heap_step.specs.declared.Event.TheVariants.{Load};
 ghost use Rattle.session_lines.specs.EventLines.{line_of};

@@ -1,5 +1,5 @@
 //! The session of two dumps.
-ghost use Rattle.std.specs.Prelude.{◌≡◌, ◌≤◌, ◌<◌, ◌^◌, ◌++◌, length, IfOk};
+ghost use Rattle.std.specs.Prelude.{◌≤◌, ◌<◌, ◌^◌, ◌++◌, length};
 ghost use Rattle.indexmap.specs.IndexMap.{index_map_len};
 ghost use Rattle.hprof_session.specs.Places.{lines_of};
 ghost use Rattle.hprof_lines.specs.Outputs.{Writes};

@@ -1,5 +1,5 @@
 //! Classes and sizes of objects.
-ghost use Rattle.std.specs.Prelude.{◌≡◌, None, option_map, slice_index_or, IfSome};
+ghost use Rattle.std.specs.Prelude.{◌≡◌, None};
 ghost use Rattle.session_lines.specs.Laws.{HasLine};
 ghost use Rattle.hprof_pair.specs.Shapes.{class_in, is_same_shape, making, shape_in, shape_made};
 

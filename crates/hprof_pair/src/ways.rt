@@ -1,5 +1,5 @@
 //! How the objects of the first dump are found again in its heap, from the array of its roots on.
-ghost use Rattle.std.specs.Prelude.{◌≡◌, ◌≤◌, ◌<◌, ◌+◌, ◌^◌, ◌++◌, [], flat_map, length, IfOk, OnOk};
+ghost use Rattle.std.specs.Prelude.{◌≡◌, ◌≤◌, ◌+◌, ◌++◌, [], flat_map, length, IfOk, OnOk};
 ghost use Rattle.indexmap.specs.IndexMap.{index_map_len};
 ghost use Rattle.hprof_lines.specs.Objects.{objects_told};
 ghost use Rattle.hprof_lines.specs.Roots.{arrays_for, roots_named, with_room};

@@ -1,5 +1,5 @@
 //! The fields of the classes of a session.
-ghost use Rattle.std.specs.Prelude.{◌≡◌, nat_eq, map, IfOk, OnOk};
+ghost use Rattle.std.specs.Prelude.{◌≡◌, map, IfOk, OnOk};
 ghost use Rattle.std.specs.List.{list_any};
 ghost use Rattle.std.specs.Str.{bytes_eq};
 ghost use Rattle.hprof_plan.specs.ClassFields.{add_field, class_name_at, name_at, own_named, static_named};

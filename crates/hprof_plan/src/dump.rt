@@ -1,5 +1,5 @@
 //! What a first walk over a dump finds: its names, classes, objects and roots.
-ghost use Rattle.std.specs.Prelude.{◌≡◌, ◌+◌, ◌<◌, ◌≤◌, ◌^◌, ◌++◌, [], nat_eq, IfOk, OnOk, length};
+ghost use Rattle.std.specs.Prelude.{◌≡◌, ◌+◌, ◌<◌, ◌≤◌, ◌^◌, ◌++◌, nat_eq, IfOk, OnOk, length};
 ghost use Rattle.std.specs.Option.{option_to_list};
 ghost use Rattle.indexmap.specs.IndexMap.{insert_all as insert_entries};
 ghost use Rattle.indexmap.specs.IndexSet.{insert_all as insert_keys};

@@ -1,5 +1,5 @@
 //! The classes of the dump in its session.
-ghost use Rattle.std.specs.Prelude.{◌≡◌, ◌≤◌, ◌<◌, ◌+◌, ◌∷◌, ◌++◌, [], nat_eq, length, map, reverse, slice_get, true, false, IfOk, OnOk, None, Some, option_and_then};
+ghost use Rattle.std.specs.Prelude.{◌≡◌, ◌<◌, ◌+◌, ◌∷◌, ◌++◌, [], nat_eq, length, map, reverse, slice_get, true, false, IfOk, OnOk, None, Some, option_and_then};
 ghost use Rattle.std.specs.Map.{keys_of};
 ghost use Rattle.std.specs.Option.{option_map_or};
 ghost use Rattle.heap_class.specs.Classes.{is_instance_class, slots_of};

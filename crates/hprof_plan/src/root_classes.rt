@@ -1,5 +1,5 @@
 //! The classes of the arrays of roots in the session of a dump.
-ghost use Rattle.std.specs.Prelude.{◌≡◌, ◌≤◌, ◌<◌, ◌+◌, [], length, slice_get, Some, OnOk};
+ghost use Rattle.std.specs.Prelude.{◌≡◌, ◌≤◌, ◌<◌, ◌+◌, length, slice_get, Some, OnOk};
 ghost use Rattle.heap_class.specs.Limits.{AreClassLimits};
 ghost use Rattle.hprof_plan.specs.Defined.{AreDefined};
 ghost use Rattle.hprof_plan.specs.SessionClasses.{and_arrays, root_names};

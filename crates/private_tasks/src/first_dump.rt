@@ -8,7 +8,7 @@ ghost use Rattle.private_tasks.specs.Explorations.{IsDumpHindrance, IsDumpRunFro
 use crate::failure::Fault;
 use crate::reasons::tell_path;
 use crate::request::Request;
-use heap_console::{LineReports, LoadOutlet, LoadStart, NewestLine};
+use heap_console::{LineReports, LoadOutlet, LoadStart};
 use hprof_convert::{Converted, Failure, convert, tell_left_out};
 use session_text::{Commands, Ended, session_limits};
 use std::fs;
@@ -60,8 +60,7 @@ fn run_dump<R: AllocGlobal + Clock + Eprint, C: Commands + Drop, B: LoadStart<C>
     let path = request.first.unwrap_or("");
     let (alloc, time) = (rt.alloc(), request.settings.time);
     let limits = session_limits(request.settings.wide);
-    let answers = NewestLine::new(alloc);
-    let mut reports = LineReports::new(rt, alloc, &answers, path, REPORTED_LINES);
+    let mut reports = LineReports::new(rt, path, REPORTED_LINES);
     if request.shows_progress(is_terminal) {
         reports.begin_count();
     }

@@ -8,7 +8,7 @@ ghost use Rattle.private_tasks.specs.Explorations.{IsHindrance, IsPairFault, IsP
 use crate::failure::Fault;
 use crate::first_dump::{REPORTED_LINES, fault_of_load, read_dump};
 use crate::request::Request;
-use heap_console::{LineReports, LoadOutlet, LoadStart, NewestLine};
+use heap_console::{LineReports, LoadOutlet, LoadStart};
 use hprof_convert::tell_left_out;
 use hprof_pair::{BothConverted, PairFailure, convert_pair};
 use session_text::{Commands, Ended, session_limits};
@@ -57,8 +57,7 @@ fn run_dumps<R: AllocGlobal + Clock + Eprint, C: Commands + Drop, B: LoadStart<C
     let path = request.first.unwrap_or("");
     let (alloc, time) = (rt.alloc(), request.settings.time);
     let limits = session_limits(request.settings.wide);
-    let answers = NewestLine::new(alloc);
-    let mut reports = LineReports::new(rt, alloc, &answers, path, REPORTED_LINES);
+    let mut reports = LineReports::new(rt, path, REPORTED_LINES);
     if request.shows_progress(is_terminal) {
         reports.begin_count();
     }

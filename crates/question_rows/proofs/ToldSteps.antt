@@ -1,5 +1,5 @@
 -- The classes of the objects that steps made are there.
-use Rattle.std.proofs.Common.{◌≡◌, ℕ, zero, suc, ◌+◌, ◌≤◌, List, [], ◌∷◌, length, Option, Some, refl, ap, ◌∙◌, sym, subst, arith}
+use Rattle.std.proofs.Common.{◌≡◌, ℕ, zero, suc, ◌+◌, ◌≤◌, List, [], ◌∷◌, Option, Some, refl, ap, ◌∙◌, sym, subst, arith}
 use Rattle.std.specs.Prelude.{All, drop, map, slice_get, zip}
 use Rattle.std.specs.List.{range_with_len}
 use Rattle.std.specs.Option.{option_map_or}
@@ -17,7 +17,6 @@ use Rattle.heap_trail.specs.Laws.{IsTrail}
 use Rattle.heap_trail.specs.Trail.{Trail, retained, state_ago}
 use Rattle.heap_trail.proofs.RetainedRecords.{has_record}
 use Rattle.heap_trail.proofs.RetainedStates.{as_many_records_as_states}
-use Rattle.heap_questions.specs.declared.past.steps.PastStep.{PastStep}
 use Rattle.heap_questions.specs.Newest.{object_of_state, past_step, steps_back}
 use Rattle.heap_questions.proofs.FirstPlaces.{written_live}
 use Rattle.question_words.specs.Names.{IsClassThere}

@@ -5,7 +5,6 @@ use Rattle.std.specs.Bool.{◌==◌}
 use Rattle.std.specs.List.{AllByRecursion}
 use Rattle.std.proofs.lemmas.List.Elements.{recursion_from_All}
 use Rattle.heap_class.specs.Kinds.{is_reference}
-use Rattle.heap_class.specs.Classes.{Class}
 use Rattle.hprof_text.specs.Image.{DumpedObject, Image, IsDumpable, IsKnown}
 use Rattle.heap_questions.specs.Graph.{object_with}
 use Rattle.question_words.specs.Names.{IsClassThere}

@@ -1,5 +1,5 @@
 -- How many rows of a tree there is room for.
-use Rattle.std.proofs.Common.{◌≡◌, ◌∙◌, ◌+◌, ◌<◌, ℕ, zero, suc, List, [], ◌∷◌, ◌++◌, Option, None, Some, length, ap, inl, inr, refl, sym, arith}
+use Rattle.std.proofs.Common.{◌≡◌, ◌∙◌, ◌+◌, ◌<◌, ℕ, zero, suc, List, [], ◌++◌, Option, None, Some, length, ap, inl, inr, refl, sym, arith}
 use Rattle.std.proofs.lemmas.List.{append-nil, length-append}
 use Rattle.heap_class.specs.declared.Refusal.{Refusal}
 use Rattle.heap_class.specs.declared.Refusal.TheVariants.{NoMemory, TooLarge}

@@ -1,6 +1,5 @@
 //! The answer of `cells`.
 ghost use Rattle.std.specs.Prelude.{◌≡◌, flat_map, length, option_map, IsSome, Some, IfOk};
-ghost use Rattle.heap_class.specs.declared.Refusal.TheVariants.{NoMemory};
 ghost use Rattle.heap_world.specs.Live.{cells_of};
 ghost use Rattle.heap_world.specs.Regions.{used_at};
 ghost use Rattle.heap_questions.specs.Cells.{used_regions};

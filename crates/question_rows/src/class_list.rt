@@ -2,7 +2,6 @@
 ghost use Rattle.std.specs.Prelude.{◌<◌, flat_map, length};
 ghost use Rattle.std.specs.List.{range_with_len};
 ghost use Rattle.heap_class.specs.Classes.{fields_of};
-ghost use Rattle.heap_class.specs.declared.Refusal.TheVariants.{NoMemory};
 ghost use Rattle.question_words.specs.Appends.{Appends, ReturnsText};
 ghost use Rattle.question_rows.specs.ClassLists.{IsClassesText, and_fields, class_text, field_words, super_words};
 

@@ -1,6 +1,5 @@
 //! The answers of `when`.
 ghost use Rattle.std.specs.Prelude.{◌≡◌, ◌≤◌, ◌+◌, IfOk};
-ghost use Rattle.heap_class.specs.declared.Refusal.TheVariants.{NoMemory};
 ghost use Rattle.heap_questions.specs.declared.wanted.Wanted.TheVariants.{OfClass};
 ghost use Rattle.heap_questions.specs.FirstPlaces.{HasMany, HasWanted};
 ghost use Rattle.heap_trail.specs.Trail.{retained};

@@ -1,6 +1,5 @@
 //! The answers of `histogram`, `garbage` and `retained`.
 ghost use Rattle.std.specs.Prelude.{◌≡◌, ◌<◌, ◌+◌, ◌^◌, All, length, flat_map};
-ghost use Rattle.heap_class.specs.declared.Refusal.TheVariants.{NoMemory};
 ghost use Rattle.heap_questions.specs.Histogram.{class_rows};
 ghost use Rattle.question_words.specs.Appends.{Appends, ReturnsText};
 ghost use Rattle.question_rows.specs.Histograms.{IsGarbageText, IsHistogramText, IsRetainedCount, IsRetainedText, IsRowsText, and_counts, row_text, sum_of, total_text};
@@ -112,7 +111,7 @@ pub fn histogram_text<V: View>(alloc: Global, view: &V) -> Result<Vec<u8>, Refus
     rows_text(alloc, &classes, &histogram)
 }
 
-/// Returns the answer of `garbage` about a view. Fails with NoMemory if an allocation fails. Reads each object at most twice.
+/// Returns the answer of `garbage` about a view. Fails with NoMemory if an allocation fails. Reads each object at most three times.
 pub fn garbage_text<V: View>(alloc: Global, view: &V) -> Result<Vec<u8>, Refusal>
     ensures { ReturnsText (IsGarbageText (V.ids view.now) (V.image view.now)) result }
 {

@@ -1,5 +1,5 @@
 //! The answer of `history`.
-ghost use Rattle.std.specs.Prelude.{◌≡◌, ◌++◌, ◌≤◌, All, codes, flat_map};
+ghost use Rattle.std.specs.Prelude.{◌++◌, ◌≤◌, All, codes, flat_map};
 ghost use Rattle.heap_trail.specs.Trail.{retained};
 ghost use Rattle.question_words.specs.Appends.{Appends, ReturnsText};
 ghost use Rattle.question_rows.specs.Histories.{AreStepsTold, IsHistoryText, IsEventThere, IsStepThere, and_overwritten, and_slot, event_words, past_step_line};

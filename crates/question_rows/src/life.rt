@@ -1,5 +1,5 @@
 //! The answer of `life`.
-ghost use Rattle.std.specs.Prelude.{◌≡◌, All, codes, flat_map};
+ghost use Rattle.std.specs.Prelude.{All, flat_map};
 ghost use Rattle.question_words.specs.Appends.{Appends, ReturnsText};
 ghost use Rattle.question_rows.specs.Lives.{AreLivesTold, IsLifeText, and_loss, and_place_or, life_line};
 ghost use Rattle.question_words.specs.Moments.{told_text};

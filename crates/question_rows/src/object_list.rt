@@ -1,6 +1,5 @@
 //! The answer of `objects`.
 ghost use Rattle.std.specs.Prelude.{All, flat_map};
-ghost use Rattle.heap_class.specs.declared.Refusal.TheVariants.{NoMemory};
 ghost use Rattle.question_words.specs.Appends.{Appends, ReturnsText};
 ghost use Rattle.question_words.specs.Moments.{IsToldOf, told_text};
 ghost use Rattle.question_rows.specs.ObjectLists.{AreObjectsTold, IsListedThere, IsObjectsText, listed_text, unreached_words};
@@ -14,7 +13,7 @@ use question_words::{
 use std::alloc::{AllocError, Global};
 
 /// Returns the answer of `objects` about a view. Fails with NoClass if the class isn't there, with BadSlot if its objects have no
-/// such slot, and with NoMemory if an allocation fails. Reads each object at most twice.
+/// such slot, and with NoMemory if an allocation fails. Reads each object at most three times.
 pub fn objects_answer<V: View>(
     alloc: Global,
     view: &V,

@@ -1,6 +1,5 @@
 //! The answer of `pins`.
 ghost use Rattle.std.specs.Prelude.{◌≡◌, flat_map, length, map, IfOk};
-ghost use Rattle.heap_class.specs.declared.Refusal.TheVariants.{NoMemory};
 ghost use Rattle.heap_trail.specs.Listings.{listed_pin};
 ghost use Rattle.question_words.specs.Appends.{Appends, ReturnsText};
 ghost use Rattle.question_words.specs.Moments.{told_text};

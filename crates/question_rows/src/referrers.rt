@@ -1,6 +1,5 @@
 //! The answer of `referrers`.
 ghost use Rattle.std.specs.Prelude.{◌≡◌};
-ghost use Rattle.heap_class.specs.declared.Refusal.TheVariants.{NoMemory};
 ghost use Rattle.heap_questions.specs.Referrers.{referrers_of};
 ghost use Rattle.question_words.specs.Appends.{Appends, ReturnsText};
 ghost use Rattle.question_words.specs.Moments.{IsToldOf, told_text};

@@ -1,6 +1,5 @@
 //! The answer of `writes`.
 ghost use Rattle.std.specs.Prelude.{◌≡◌, ◌≤◌, ◌+◌, flat_map, IfOk};
-ghost use Rattle.heap_class.specs.declared.Refusal.TheVariants.{NoMemory};
 ghost use Rattle.question_words.specs.Appends.{Appends, ReturnsText};
 ghost use Rattle.question_words.specs.Moments.{told_text};
 ghost use Rattle.heap_trail.specs.Trail.{retained, rewound};

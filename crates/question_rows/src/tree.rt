@@ -3,7 +3,7 @@ ghost use Rattle.std.specs.Prelude.{◌≡◌, ◌⊎◌, ◌+◌, ◌<◌, ◌^
 ghost use Rattle.heap_class.specs.declared.Refusal.TheVariants.{NoMemory, TooLarge};
 ghost use Rattle.hprof_text.specs.Image.{IsDumpable, IsKnown};
 ghost use Rattle.question_words.specs.Appends.{Appends};
-ghost use Rattle.question_words.specs.Moments.{IsToldOf, refused_text, told_text};
+ghost use Rattle.question_words.specs.Moments.{IsToldOf, told_text};
 ghost use Rattle.question_words.specs.Names.{IsClassThere};
 ghost use Rattle.question_rows.specs.Objects.{rows_joined, object_line};
 ghost use Rattle.question_rows.specs.Trees.{IsTreeText, and_class, and_kind_and_value, and_slot_name, kind_at, object_at_slot, row_limit, rows_text, slot_name, tree_row, tree_rows};

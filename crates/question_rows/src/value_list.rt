@@ -1,6 +1,5 @@
 //! The answer of `values`.
 ghost use Rattle.std.specs.Prelude.{flat_map};
-ghost use Rattle.heap_class.specs.declared.Refusal.TheVariants.{NoMemory};
 ghost use Rattle.question_words.specs.Appends.{Appends, ReturnsText};
 ghost use Rattle.question_words.specs.Moments.{IsToldOf, told_text};
 ghost use Rattle.question_rows.specs.ValueLists.{AreValuesTold, IsValuesText, value_line};

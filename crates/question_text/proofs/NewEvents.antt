@@ -13,7 +13,7 @@ use Rattle.heap_trail.specs.declared.Action.TheVariants.{Step}
 use Rattle.heap_world.specs.State.{HeapState}
 use Rattle.session_grammar.specs.declared.command.Command.TheVariants.{Ask, Bad}
 use Rattle.session_grammar.specs.Grammar.{access_rules, all_rules, at_end, by_rule, class_line, class_rules, command_of_text, command_of_words, fields_of_words, four_numbers, is_plain, making_rules, marking_rules, next_number, number_of_word, number_or_dash, session_rules, three_numbers, words_of_line}
-use Rattle.session_grammar.specs.Reads.{next_name, plain_fields}
+use Rattle.session_grammar.specs.Reads.{plain_fields}
 use Rattle.question_grammar.specs.Bookmarks.{Bookmarks}
 use Rattle.question_grammar.specs.EventNames.{array_by_name, class_by_name, event_by_name, event_of_words, load_by_name, new_by_name, next_class, next_slot, next_super, object_event_by_name, slot_in_register, unless_number, write_by_name}
 use Rattle.question_grammar.specs.NameWords.{class_named}

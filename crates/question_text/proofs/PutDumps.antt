@@ -1,5 +1,5 @@
 -- Dumps that are put out piece by piece.
-use Rattle.std.proofs.Common.{◌≡◌, ℕ, ◌+◌, ◌<◌, Bool, true, false, List, [], ◌++◌, length, drop, refl, sym, subst, ap, ◌∙◌, append_assoc, arith, length-append}
+use Rattle.std.proofs.Common.{◌≡◌, ℕ, ◌+◌, true, false, List, [], ◌++◌, drop, refl, sym, subst, ap, ◌∙◌, append_assoc, arith, length-append}
 use Rattle.std.specs.Prelude.{Err}
 use Rattle.std.specs.List.{concat}
 use Rattle.std.proofs.lemmas.List.{append-nil}

@@ -1,6 +1,5 @@
 //! The answers of `dominators` and `dominator`.
 ghost use Rattle.std.specs.Prelude.{◌≡◌, All, flat_map};
-ghost use Rattle.heap_class.specs.declared.Refusal.TheVariants.{NoMemory};
 ghost use Rattle.hprof_text.specs.Image.{IsDumpable};
 ghost use Rattle.question_words.specs.Appends.{Appends, ReturnsText};
 ghost use Rattle.question_text.specs.DominatorRows.{IsDominatedText, IsDominatorText, IsDominatorsText, IsTopThere, above_text, holder_text, top_text, tops_text, up_text};

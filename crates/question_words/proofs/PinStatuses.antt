@@ -1,14 +1,13 @@
 -- The open pin of a number, found in the list of the open pins.
-use Rattle.std.proofs.Common.{◌≡◌, ◌∙◌, ℕ, zero, suc, add-one, ◌+◌, ◌<◌, ◌≤◌, Bool, true, false, cond, List, [], ◌∷◌, length, take, Option, Some, None, refl, sym, ap, subst, inl, inr, arith}
+use Rattle.std.proofs.Common.{◌≡◌, ◌∙◌, ℕ, zero, suc, add-one, ◌+◌, ◌<◌, true, false, cond, List, [], ◌∷◌, length, take, Option, Some, None, refl, sym, ap, subst, inl, inr}
 use Rattle.std.specs.Prelude.{◌==◌, Err, Result, find, option_map, slice_get}
-use Rattle.std.proofs.lemmas.Bool.{cases_Bool, false≢true}
+use Rattle.std.proofs.lemmas.Bool.{cases_Bool}
 use Rattle.std.proofs.lemmas.List.{take_all}
 use Rattle.std.proofs.lemmas.Option.{none-some, same_Some, slice_get_cases, slice_get_within}
 use Rattle.heap_class.specs.declared.LostCause.{LostCause}
 use Rattle.heap_class.specs.declared.Refusal.{Refusal}
 use Rattle.heap_class.specs.declared.Refusal.TheVariants.{NoPin, Lost as LostPin}
 use Rattle.heap_trail.specs.declared.listing.ListedPin.{ListedPin}
-use Rattle.heap_trail.specs.declared.listing.PinStatus.{PinStatus}
 use Rattle.heap_trail.specs.declared.listing.PinStatus.TheVariants as status
 use Rattle.heap_trail.specs.Listings.{listed_pin, status_of}
 use Rattle.heap_trail.specs.Pins.{Gone, Kept, PinState, Pins, pin_at}

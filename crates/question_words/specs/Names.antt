@@ -1,5 +1,5 @@
 -- The names of what a count's rows count, of objects' classes, and of fields.
-use Rattle.std.specs.Prelude.{ℕ, ◌-◌, ◌<◌, ◌==◌, length, nat_lt, List, [], ◌++◌, codes, find, if◌then◌else◌, zero, suc, ◌+◌, Option, Some, None}
+use Rattle.std.specs.Prelude.{ℕ, ◌-◌, ◌<◌, ◌==◌, length, nat_lt, List, [], ◌++◌, codes, find, if◌then◌else◌, zero, suc, Option, Some, None}
 use Rattle.std.specs.Option.{option_map_or}
 use Rattle.heap_class.specs.declared.Kind.{Kind}
 use Rattle.heap_class.specs.declared.ObjKind.{ObjKind}

@@ -2,7 +2,7 @@
 ghost use Rattle.std.specs.Prelude.{◌≡◌, ◌≤◌, Ok, Err, IfOk, IfErr, option_map};
 ghost use Rattle.heap_pins.specs.Pin.{pin_image};
 ghost use Rattle.heap_trail.specs.Listings.{status_of};
-ghost use Rattle.heap_trail.specs.Pins.{is_retained, pin_at};
+ghost use Rattle.heap_trail.specs.Pins.{pin_at};
 ghost use Rattle.heap_trail.specs.Trail.{retained};
 ghost use Rattle.question_words.specs.Moments.{ago_at, ago_of_pin, steps_ago, IsMomentOf, IsRefusedAt, image_at, moment_image};
 ghost use Rattle.question_words.specs.declared.at.At.TheVariants.{Current, Place};

@@ -3,7 +3,7 @@ ghost use Rattle.std.specs.Prelude.{◌≡◌, ◌==◌, ◌<◌, List, [], vec_
 ghost use Rattle.std.specs.List.{list_any};
 ghost use Rattle.heap_lock.specs.Calls.{Call};
 ghost use Rattle.heap_lock.specs.declared.role.Role.TheVariants.{User};
-ghost use Rattle.seat_session.specs.StayingSeats.{ActsWith, AnswersSeat, AnswersStaying, ClosesEach, KeepsPin, OpensNoted, OpensOrAnswersSeat, asks_pins, kept_pin, with_opened, without};
+ghost use Rattle.seat_session.specs.StayingSeats.{ActsWith, AnswersSeat, ClosesEach, KeepsPin, OpensNoted, OpensOrAnswersSeat, asks_pins, kept_pin, with_opened, without};
 ghost use Rattle.question_grammar.specs.NoteLines.{place_opened};
 ghost use Rattle.heap_lock.specs.Action.TheVariants.{ClosePin};
 ghost use Rattle.heap_lock.specs.Machine.{IsSmall};

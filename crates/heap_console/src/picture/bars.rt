@@ -1,5 +1,5 @@
 //! The bars of the regions that have no row: each as long as the part of the region that is in use.
-use crate::picture::cells::{LEFT, STEP, add_path_begin, add_path_end, middle_of};
+use crate::picture::cells::{LEFT, add_path_begin, add_path_end, middle_of};
 use crate::picture::rows::Rows;
 use crate::picture::text::{add, add_next_stroke, add_number, add_text_at};
 use std::alloc::AllocError;

@@ -1,5 +1,5 @@
 //! The trail up to a retained state.
-ghost use Rattle.std.specs.Prelude.{◌≡◌, ◌↔◌, ◌<◌, ◌≤◌, ℕ, MatchOption, IsSome, IfSome, IsTrue, IfOk, IfErr, None, Some, is_some, slice_get};
+ghost use Rattle.std.specs.Prelude.{◌≡◌, ◌↔◌, ◌<◌, ◌≤◌, MatchOption, IsSome, IfSome, IsTrue, IfOk, IfErr, None, Some, is_some, slice_get};
 ghost use Rattle.heap_class.specs.declared.Refusal.TheVariants.{NoMemory};
 ghost use Rattle.heap_region.specs.Regions.{object_at, object_of, ref_of};
 ghost use Rattle.heap_trail.specs.Trail.{retained, rewound, state_ago};

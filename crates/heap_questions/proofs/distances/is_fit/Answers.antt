@@ -1,4 +1,4 @@
-use Rattle.std.proofs.Common.{◌≡◌, ◌≢◌, ◌+◌, ℕ, eqb-true, arith}
+use Rattle.std.proofs.Common.{◌≢◌, ◌+◌, eqb-true, arith}
 use Rattle.heap_questions.specs.Distances.{distance_by, far}
 use Rattle.heap_questions.proofs.KnownDistances.{fit_by_goal, fit_by_step}
 use Rattle.heap_questions.proofs.WaysBack.{id_told}

@@ -1,4 +1,4 @@
-use Rattle.std.proofs.Common.{◌≡◌, ◌∙◌, ◌+◌, ◌-◌, sym, subst, arith}
+use Rattle.std.proofs.Common.{◌-◌, subst, arith}
 use Rattle.std.specs.Prelude.{Option}
 use Rattle.heap_questions.specs.Distances.{IsFirstNearer, distance_by}
 use Rattle.heap_questions.specs.Graph.{named}

@@ -1,8 +1,7 @@
-use Rattle.std.proofs.Common.{◌≡◌, ◌∙◌, List, ap, subst, sym}
+use Rattle.std.proofs.Common.{◌∙◌, List, ap, subst, sym}
 use Rattle.std.specs.Prelude.{All}
 use Rattle.heap_class.specs.Classes.{Class}
 use Rattle.heap_world.specs.State.{HeapState}
-use Rattle.heap_questions.specs.declared.past.steps.PastStep.{PastStep}
 use Rattle.question_rows.specs.Histories.{IsStepThere}
 use Rattle.question_rows.proofs.ToldSteps.{steps_there}
 use Rattle.question_rows.proofs.history.steps_text.Goals as goal

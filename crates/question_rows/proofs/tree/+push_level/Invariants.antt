@@ -1,4 +1,4 @@
-use Rattle.std.proofs.Common.{◌≡◌, ◌+◌, ◌<◌, ◌++◌, length}
+use Rattle.std.proofs.Common.{◌≡◌, ◌+◌, ◌++◌, length}
 use Rattle.question_rows.specs.Objects.{rows_joined}
 use Rattle.question_rows.specs.Trees.{branches}
 use Rattle.question_rows.proofs.TreeRows.{rows_below}

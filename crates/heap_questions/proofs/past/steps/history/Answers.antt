@@ -1,11 +1,10 @@
-use Rattle.std.proofs.Common.{◌≡◌, ℕ, ◌+◌, ◌-◌, ◌<◌, List, ◌∷◌, ◌++◌, [], sym, ap, ◌∙◌, subst, arith}
+use Rattle.std.proofs.Common.{◌≡◌, ◌+◌, ◌-◌, ◌<◌, ◌∷◌, ◌++◌, [], sym, ◌∙◌, subst, arith}
 use Rattle.std.specs.Prelude.{min}
 use Rattle.heap_trail.specs.Trail.{retained, state_ago}
 use Rattle.heap_trail.proofs.RetainedRecords.{has_record}
 use Rattle.heap_questions.specs.declared.past.steps.PastStep.{PastStep}
-use Rattle.heap_questions.specs.Newest.{event_by, event_to, past_step}
+use Rattle.heap_questions.specs.Newest.{event_to, past_step}
 use Rattle.heap_questions.specs.PastTrails.{IsPinAgo}
-use Rattle.heap_questions.specs.SlotWrites.{seen_object}
 use Rattle.heap_questions.proofs.NewestSteps.{back_all, back_more, back_none}
 use Rattle.heap_questions.proofs.SeenSteps.{event_seen, step_seen}
 use Rattle.heap_questions.proofs.WrittenSlots.{can_walk, shown_beside, walked_one}

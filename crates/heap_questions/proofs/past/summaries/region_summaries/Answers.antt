@@ -1,5 +1,4 @@
 use Rattle.std.proofs.Common.{◌∙◌, ◌+◌, ap, arith, subst, sym}
-use Rattle.heap_region.specs.Pool.{RegionPool}
 use Rattle.heap_trail.specs.Trail.{state_ago}
 use Rattle.heap_trail.proofs.RetainedRecords.{has_record}
 use Rattle.heap_world.specs.State.{HeapState}

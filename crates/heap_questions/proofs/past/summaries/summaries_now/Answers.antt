@@ -1,6 +1,4 @@
-use Rattle.std.proofs.Common.{◌∙◌, ◌<◌, ◌++◌, ◌∷◌, [], List, Option, ap, ap₂, arith, length, sym}
-use Rattle.std.proofs.lemmas.List.{take_all}
-use Rattle.heap_questions.specs.RegionSummaries.{summaries, summary_of}
+use Rattle.std.proofs.Common.{◌∙◌, ◌<◌, ◌++◌, ◌∷◌, [], List, Option, ap₂, arith, length, sym}
 use Rattle.heap_questions.specs.declared.past.summaries.RegionSummary.{RegionSummary}
 use Rattle.heap_questions.proofs.PastRegions.{one_region_more_told}
 use Rattle.heap_questions.proofs.past.summaries.summaries_now.Goals as goal

@@ -1,4 +1,4 @@
-use Rattle.std.proofs.Common.{◌≡◌, ◌∙◌, ◌≤◌, ◌<◌, ◌+◌, ℕ, List, Option, Some, None, add-one, ap, ap₂, arith, get_or, length, set, sym, refl}
+use Rattle.std.proofs.Common.{◌≡◌, ◌∙◌, ◌≤◌, ◌<◌, ◌+◌, ℕ, List, Option, Some, None, add-one, ap, ap₂, arith, get_or, length, set, sym}
 use Rattle.std.specs.Prelude.{IfSome, option_map}
 use Rattle.std.proofs.lemmas.List.{get_or_read}
 use Rattle.heap_region.specs.Limits.{cell_limit}

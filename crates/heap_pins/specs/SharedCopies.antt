@@ -8,13 +8,13 @@ use Rattle.heap_step.specs.declared.Undo.{Undo}
 use Rattle.heap_pins.specs.KeptCopies.{copy_for, touched, with_dead}
 
 -- the copy of a region with the old word in its slot
-abbrev pub word_before : HeapState → ObjRef → ℕ → ℕ → Option Frozen
-word_before w at slot old =
+abbrev pub copy_with_word : HeapState → ObjRef → ℕ → ℕ → Option Frozen
+copy_with_word w at slot old =
     option_map (frozen_word_set at.cell slot old) (region_frozen w.regions at.region)
 
 -- the copy of a region with the dead objects in their cells
-abbrev pub dead_before : HeapState → ℕ → List (ℕ × Object) → Option Frozen
-dead_before w r dead = option_map (with_dead dead) (region_frozen w.regions r)
+abbrev pub copy_with_dead : HeapState → ℕ → List (ℕ × Object) → Option Frozen
+copy_with_dead w r dead = option_map (with_dead dead) (region_frozen w.regions r)
 
 -- what pins share, if they share anything, is this copy
 abbrev pub SharesOnly : Option Frozen → Option Frozen → Type 0

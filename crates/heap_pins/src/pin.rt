@@ -10,7 +10,7 @@ ghost use Rattle.heap_step.specs.declared.Undo.TheVariants.{Sweep};
 ghost use Rattle.heap_step.specs.Laws.{IsStep};
 ghost use Rattle.heap_pins.specs.Pin.{state_seen};
 ghost use Rattle.heap_pins.specs.KeptCopies.{ends_cycle, has_copy, kept, noted, touched, with_byte};
-ghost use Rattle.heap_pins.specs.SharedCopies.{SharesBefore, SharesOnly, dead_before, word_before};
+ghost use Rattle.heap_pins.specs.SharedCopies.{SharesBefore, SharesOnly, copy_with_dead, copy_with_word};
 ghost use Rattle.heap_pins.specs.Shows.{FitIn};
 ghost use Rattle.heap_pins.specs.States.{AreOf, AreSettled, kept_dead, kept_region, kept_word};
 ghost use Rattle.heap_pins.specs.WalkedPins.{IsFreshPin};
@@ -153,14 +153,8 @@ impl Pin {
         ensures shared { SharesBefore left.now world.now shared.new }
     {
         match left {
-            Undo::Put { at, slot, old } => self.keep_word(world, *at, *slot as u64, *old, shared),
-            Undo::Store { at, slot, old, .. } => self.keep_word(
-                world,
-                *at,
-                *slot as u64,
-                *old,
-                shared,
-            ),
+            Undo::Put { at, slot, old } => self.keep_word(world, *at, *slot, *old, shared),
+            Undo::Store { at, slot, old, .. } => self.keep_word(world, *at, *slot, *old, shared),
             Undo::Sweep { region, dead } => {
                 if dead.len() == 0 {
                     Ok(())
@@ -225,24 +219,24 @@ impl Pin {
         &mut self,
         world: &World,
         at: ObjRef,
-        slot: u64,
+        slot: u32,
         old: u64,
         shared: &mut Option<RegionCopy>,
     ) -> Result<(), Refusal>
         requires there { IsSome (object_at world.now.regions at) }
         requires within { IfSome (object_at world.now.regions at) (λ o. slot < length o.words) }
         requires sized { length self.old.copies ≡ length world.now.regions }
-        requires shared { SharesOnly (word_before world.now at slot old) shared.old }
+        requires shared { SharesOnly (copy_with_word world.now at slot old) shared.old }
         ensures kept { OnOk result (self.new ≡ kept_word world.now at slot old self.old) }
         ensures unchanged { OnErr result (self.new ≡ self.old) }
         ensures refused { IfErr result (λ e. e ≡ NoMemory) }
-        ensures shared { SharesOnly (word_before world.now at slot old) shared.new }
+        ensures shared { SharesOnly (copy_with_word world.now at slot old) shared.new }
     {
         let region = at.region as u64;
         if self.has_copy(region) {
             return Ok(());
         }
-        let copy = word_copy(world, at, slot, old, shared)?;
+        let copy = word_copy(world, at, slot as u64, old, shared)?;
         let states = self.states(world, region);
         self.kept.put(region, copy, &states);
         Ok(())
@@ -260,11 +254,11 @@ impl Pin {
         requires fit { FitIn (region_frozen world.now.regions region) dead.now }
         requires within { All (λ d. d.0 < cell_limit) dead.now }
         requires sized { length self.old.copies ≡ length world.now.regions }
-        requires shared { SharesOnly (dead_before world.now region dead.now) shared.old }
+        requires shared { SharesOnly (copy_with_dead world.now region dead.now) shared.old }
         ensures kept { OnOk result (self.new ≡ kept_dead world.now region dead.now self.old) }
         ensures unchanged { OnErr result (self.new ≡ self.old) }
         ensures refused { IfErr result (λ e. e ≡ NoMemory) }
-        ensures shared { SharesOnly (dead_before world.now region dead.now) shared.new }
+        ensures shared { SharesOnly (copy_with_dead world.now region dead.now) shared.new }
     {
         if self.has_copy(region as u64) {
             return Ok(());

@@ -4,7 +4,7 @@ ghost use Rattle.heap_class.specs.declared.Refusal.TheVariants.{NoMemory};
 ghost use Rattle.heap_region.specs.Regions.{object_at, used_at};
 ghost use Rattle.heap_region.specs.RegionCopies.{frozen, frozen_word_set, frozen_words, region_frozen};
 ghost use Rattle.heap_pins.specs.KeptCopies.{with_dead};
-ghost use Rattle.heap_pins.specs.SharedCopies.{SharesOnly, dead_before, word_before};
+ghost use Rattle.heap_pins.specs.SharedCopies.{SharesOnly, copy_with_dead, copy_with_word};
 ghost use Rattle.heap_pins.specs.Shows.{AreFit, FitIn};
 
 use heap_class::{ObjRef, Refusal};
@@ -110,9 +110,9 @@ pub(crate) fn word_copy(
 ) -> Result<RegionCopy, Refusal>
     requires there { IsSome (object_at world.now.regions at) }
     requires within { IfSome (object_at world.now.regions at) (λ o. slot < length o.words) }
-    requires shared { SharesOnly (word_before world.now at slot old) shared.old }
-    ensures made { IfOk result (λ c. word_before world.now at slot old ≡ Some c) }
-    ensures shared { SharesOnly (word_before world.now at slot old) shared.new }
+    requires shared { SharesOnly (copy_with_word world.now at slot old) shared.old }
+    ensures made { IfOk result (λ c. copy_with_word world.now at slot old ≡ Some c) }
+    ensures shared { SharesOnly (copy_with_word world.now at slot old) shared.new }
     ensures refused { IfErr result (λ e. e ≡ NoMemory) }
 {
     if let Some(copy) = shared {
@@ -146,9 +146,9 @@ pub(crate) fn dead_copy(
 ) -> Result<RegionCopy, Refusal>
     requires used { IsSome (used_at world.now.regions region) }
     requires fit { FitIn (region_frozen world.now.regions region) dead.now }
-    requires shared { SharesOnly (dead_before world.now region dead.now) shared.old }
-    ensures made { IfOk result (λ c. dead_before world.now region dead.now ≡ Some c) }
-    ensures shared { SharesOnly (dead_before world.now region dead.now) shared.new }
+    requires shared { SharesOnly (copy_with_dead world.now region dead.now) shared.old }
+    ensures made { IfOk result (λ c. copy_with_dead world.now region dead.now ≡ Some c) }
+    ensures shared { SharesOnly (copy_with_dead world.now region dead.now) shared.new }
     ensures refused { IfErr result (λ e. e ≡ NoMemory) }
 {
     if let Some(copy) = shared {

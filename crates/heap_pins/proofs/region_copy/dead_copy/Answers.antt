@@ -1,4 +1,4 @@
-use Rattle.std.proofs.Common.{◌≡◌, length, Some, IsSome, sym, ap, subst, ◌∙◌}
+use Rattle.std.proofs.Common.{length, IsSome, sym, ap, subst, ◌∙◌}
 use Rattle.heap_region.specs.Pool.{RegionPool}
 use Rattle.heap_region.specs.Regions.{used_at}
 use Rattle.heap_region.specs.RegionCopies.{region_frozen}

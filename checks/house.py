@@ -236,7 +236,7 @@ COUNTS = {
     parameters_of_tests: 0,
     shared_definitions: 118,
     broken_wraps: 0,
-    needless_imports: 31,
+    needless_imports: 0,
 }
 
 

@@ -1,5 +1,5 @@
 //! The line of an event.
-ghost use Rattle.std.specs.Prelude.{◌≡◌, ◌++◌, ◌∷◌, [], codes, decimal, map};
+ghost use Rattle.std.specs.Prelude.{◌++◌, ◌∷◌, [], codes, decimal, map};
 ghost use Rattle.heap_class.specs.Kinds.{kind_word};
 ghost use Rattle.session_lines.specs.EventLines.{Appends, and_words, event_text, field_word, super_word};
 

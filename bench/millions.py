@@ -12,7 +12,6 @@ answer is wrong."""
 import mmap
 import os
 import pathlib
-import re
 import struct
 import subprocess
 import sys
@@ -20,6 +19,10 @@ import tempfile
 import time
 
 TOP = pathlib.Path(__file__).resolve().parent.parent
+sys.path.append(str(TOP / "checks"))
+
+from servers import memory_of  # noqa: E402
+
 LENGTH, GAP = 5_000, 5
 REGIONS, KEEP = 20_000, 1 << 24
 # The seconds that a line of the hunt should take at most.
@@ -191,8 +194,7 @@ class Hunt:
 
     def megabytes(self, name):
         """Returns the memory of the program that the kernel counts by this name."""
-        status = pathlib.Path(f"/proc/{self.ran.pid}/status").read_text()
-        return int(re.search(rf"{name}:\s+(\d+)", status)[1]) // 1024
+        return memory_of(self.ran, name) >> 20
 
     def end(self):
         """Ends the session, and returns the megabytes that it has taken at most."""

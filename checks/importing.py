@@ -22,7 +22,7 @@ sys.path[:0] = [str(TOP / "checks/page"), str(TOP / "checks/model")]
 
 from asking import Page  # noqa: E402
 from ports import free_port  # noqa: E402
-from servers import Server, exchanged  # noqa: E402
+from servers import Server, exchanged, memory_of  # noqa: E402
 
 LIMIT = 120
 SESSIONS = ("leak", "orders", "services", "point")
@@ -526,12 +526,6 @@ def large_arrays(program, importer, folder):
             yield f"a dump whose large arrays the area has no room for: {few!r}"
 
 
-def memory_of(process):
-    """Returns the bytes that a process has taken at most, and those that it has."""
-    status = pathlib.Path(f"/proc/{process.pid}/status").read_text()
-    return [1024 * int(re.search(rf"{name}:\s+(\d+)", status)[1]) for name in ("VmHWM", "VmRSS")]
-
-
 def opened_in_little(program, folder):
     """Yields what is wrong with the memory that a dump of many objects takes while it is opened, beside its bytes and its heap."""
     session, dump = folder / "many.session", folder / "many.hprof"
@@ -544,7 +538,7 @@ def opened_in_little(program, folder):
         ran.stdin.write(b"status\n")
         ran.stdin.flush()
         ran.stdout.readline()
-        most, held = memory_of(ran)
+        most, held = memory_of(ran, "VmHWM"), memory_of(ran)
         ran.stdin.close()
         ran.wait(LIMIT)
     beside = (most - held - dump.stat().st_size) / NODES

@@ -26,7 +26,7 @@ import threading
 import time
 
 import segments
-from servers import DumpServer
+from servers import DumpServer, memory_of
 
 TOP = pathlib.Path(__file__).resolve().parent.parent
 sys.path.append(str(TOP / "clients/python"))
@@ -239,28 +239,22 @@ class Dumper:
             self.cut += 1
 
 
-def memory(child):
-    """Returns how many KiB of memory the program has."""
-    found = re.search(r"VmRSS:\s+(\d+) kB", pathlib.Path(f"/proc/{child.pid}/status").read_text())
-    return int(found[1]) if found else 0
-
-
 def total(clients, name):
     """Returns a sum over all clients."""
     return sum(getattr(client, name) for client in clients)
 
 
 def worked(child, clients, dumpers, seconds):
-    """Has all clients work. Returns when the memory of the program was looked at, how much it was and after how many acts."""
+    """Has all clients work. Returns when the memory of the program was looked at, how many KiB it was and after how many acts."""
     threads = [threading.Thread(target=client.works, args=(number, seconds)) for number, client in enumerate(clients)]
     threads += [threading.Thread(target=dumper.fetches, args=(seconds - 1,)) for dumper in dumpers]
     for thread in threads:
         thread.start()
     first = min(60, seconds / 2)
     time.sleep(first)
-    early = (first, memory(child), total(clients, "acts"))
+    early = (first, (memory_of(child) or 0) // 1024, total(clients, "acts"))
     time.sleep(max(0, seconds - first - 0.5))
-    late = (seconds, memory(child), total(clients, "acts"))
+    late = (seconds, (memory_of(child) or 0) // 1024, total(clients, "acts"))
     for thread in threads:
         thread.join()
     return early, late

@@ -8,7 +8,7 @@ import subprocess
 import tempfile
 import time
 
-from ports import free_ports
+from ports import free_ports, listened
 
 # The seconds that a command may take.
 LIMIT = 60
@@ -59,18 +59,12 @@ class Shell:
             return typed.ended()
 
 
-def listened():
-    """Returns the ports of 127.0.0.1 that are listened on, as the kernel's table says, so that no session is used up."""
-    rows = [row.split() for row in pathlib.Path("/proc/net/tcp").read_text().split("\n")[1:] if row]
-    return {str(int(row[1][9:], 16)) for row in rows if row[1].startswith("0100007F:") and row[3] == "0A"}
-
-
 class Typed:
     """A command that was begun. What it leaves in the background ends with it, and then no longer listens on a port that the command
     names."""
 
     def __init__(self, command, folder, path, lines, ports=()):
-        self.begun = {port for port in ports if port in command} - listened()
+        self.begun = {int(port) for port in ports if port in command} - listened()
         self.out, self.error, given = (tempfile.TemporaryFile() for _ in range(3))
         given.write(lines)
         given.seek(0)

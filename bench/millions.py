@@ -73,7 +73,7 @@ class Dump:
         assert at == size and text[at - 9 : at] == b"\x2c" + bytes(8)
 
     def number(self, at, size):
-        """Returns the number at a place."""
+        """Returns the number at a byte."""
         return int.from_bytes(self.text[at : at + size], "big")
 
     def read_segment(self, at, end):

@@ -446,7 +446,7 @@ def explored(program, importer, dump, folder, *words):
 
 
 def changed(program, importer, dump, folder):
-    """Yields how `explore --hprof` differs from `explore --from` for a dump that is cut, or has one byte changed, at some places."""
+    """Yields how `explore --hprof` differs from `explore --from` for a dump that is cut, or has one byte changed, at some bytes."""
     whole, bad = dump.read_bytes(), folder / "changed.hprof"
     for place in range(0, len(whole), max(len(whole) // 40, 1)):
         bad.write_bytes(whole[:place])
@@ -501,7 +501,7 @@ def refusals(importer, dump, folder):
 
 
 def cut_dumps(importer, dump, folder):
-    """Yields what is wrong with the sessions of a dump that is cut at each of many places: a fault must be told with its place."""
+    """Yields what is wrong with the sessions of a dump that is cut at each of many bytes: a fault must be told with its byte."""
     whole, cut = dump.read_bytes(), folder / "cut.hprof"
     for size in range(40, len(whole), max(len(whole) // 60, 1)):
         cut.write_bytes(whole[:size])

@@ -5,7 +5,7 @@ import pathlib
 import random
 import socket
 
-# Ports are asked for one after another, from a place at random on, and lie below those that the system gives to clients. So none is
+# Ports are asked for one after another, from one at random on, and lie below those that the system gives to clients. So none is
 # taken by somebody else of this run before it is listened on.
 PORTS = itertools.count(random.randrange(20_000))
 

@@ -1,13 +1,11 @@
 //! Classes in order of definition, with their slots and names.
 
-ghost use Rattle.std.specs.Prelude.{◌≡◌, ◌<◌, ◌≤◌, ◌+◌, ◌-◌, [], ◌∷◌, ◌++◌, List, length, take, Some, None, IfOk, IfSome, OnErr, OnOk, slice_get, true, Bool, not, ◌||◌, map, IsTrue};
+ghost use Rattle.std.specs.Prelude.{◌≡◌, ◌<◌, ◌≤◌, ◌+◌, ◌-◌, [], List, length, take, Some, None, IfSome, slice_get, true, Bool, not, ◌||◌, map, IsTrue};
 ghost use Rattle.std.specs.Option.{option_map_or};
 ghost use Rattle.std.specs.List.{list_any};
 ghost use Rattle.std.specs.Str.{bytes_eq};
-ghost use Rattle.heap_class.specs.Refusals.{IsAnswered};
 ghost use Rattle.heap_class.specs.Entries.{AreSizes};
 ghost use Rattle.heap_class.specs.Limits.{AreClassLimits, class_limit, name_limit, slot_limit, name_count_limit};
-ghost use Rattle.heap_class.specs.declared.Refusal.TheVariants.{NoMemory};
 ghost use Rattle.heap_class.specs.Classes.{IsClassTable, IsDefined, all_distinct, class_refusal, instance_class, array_class, is_instance_class, is_array_class, slots_of, instance_size, name_of, fields_of, sup_of, name_id, name_table};
 
 use crate::names::{

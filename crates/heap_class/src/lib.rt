@@ -1,7 +1,7 @@
 //! Kinds, classes and their slots, names, references to objects, and refusals.
 #![tactic(auto)]
 
-ghost use Rattle.std.specs.Prelude.{◌≡◌, ◌<◌, ◌==◌, ◌-◌, ℕ, List, IfOk, true, nat_lt};
+ghost use Rattle.std.specs.Prelude.{◌≡◌, ◌<◌, ◌==◌, ℕ, List, IfOk, true, nat_lt};
 ghost use Rattle.std.specs.Str.{bytes_eq};
 ghost use Rattle.heap_class.specs.Kinds.{id_bytes, width_of, type_code, kind_word, value_limit, is_reference};
 ghost use Rattle.heap_class.specs.declared.Refusal.TheVariants.{NoMemory};

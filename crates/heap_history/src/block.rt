@@ -1,6 +1,6 @@
 //! Blocks of entries.
 ghost use Rattle.std.specs.Prelude.{◌≡◌, ◌≢◌, ◌↔◌, ◌<◌, ◌≤◌, ◌++◌, ◌∷◌, [], true, false, length, slice_get, Some, None, IfNone, IfSome, IsTrue, MatchBool, OnOk};
-ghost use Rattle.heap_history.specs.declared.pack.Form.TheVariants.{Nothing, Long};
+ghost use Rattle.heap_history.specs.declared.pack.Form.TheVariants.{Nothing};
 ghost use Rattle.heap_history.specs.Blocks.{HasPlace};
 ghost use Rattle.heap_history.specs.History.{entry};
 ghost use Rattle.heap_history.specs.Kept.{kept_of};

@@ -4,7 +4,7 @@ use Rattle.std.specs.Prelude.{slice_get, option_map}
 use Rattle.heap_class.proofs.Refusals.{no_refusal_test_holds}
 use Rattle.heap_region.specs.Regions.{Object, Region, Empty, InUse, in_used}
 use Rattle.heap_region.specs.Legal.{EachObject}
-use Rattle.heap_region.specs.Turns.{turned_object, turned_back_object, turned_region, turned_back_region}
+use Rattle.heap_region.specs.Turns.{turned_object, turned_region, turned_back_region}
 use Rattle.heap_region.proofs.Lookups.{listed_region_is_in_use, object_found_in_used_cell}
 use Rattle.heap_region.proofs.LateTurns.{bit_flipped_twice, cells_turned_and_back}
 use Rattle.heap_mark.specs.MarkSteps.{MarkState, each_object, each_region, pending_regions, finish_refusal, finished_region, finished, unfinished_region}

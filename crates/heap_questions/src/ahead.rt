@@ -1,5 +1,5 @@
 //! Objects are read ahead of a search, so that the processor reads many of them at a time.
-ghost use Rattle.std.specs.Prelude.{◌≡◌, ◌<◌, length};
+ghost use Rattle.std.specs.Prelude.{◌<◌, length};
 ghost use Rattle.heap_questions.specs.Search.{AreNodes};
 
 use crate::nodes::NodeList;

@@ -1,7 +1,7 @@
 //! Regions of equal size, the objects in their cells, free lists and the pool.
 #![tactic(auto)]
 
-ghost use Rattle.std.specs.Prelude.{◌≡◌, ◌≢◌, ◌+◌, ◌<◌, ◌≤◌, ℕ, length, Some, None, true, false, IsSome, IfSome, IfOk, IfErr, OnErr, is_some, option_map, slice_get, slice_index, map, reverse, MatchOption, IsSomeAnd, count_by};
+ghost use Rattle.std.specs.Prelude.{◌≡◌, ◌≢◌, ◌<◌, ◌≤◌, ℕ, length, Some, None, true, false, IsSome, IfSome, IfOk, IfErr, OnErr, is_some, option_map, slice_get, slice_index, map, reverse, MatchOption, IsSomeAnd, count_by};
 ghost use Rattle.std.specs.List.{enumerate_from, filter_map};
 ghost use Rattle.std.specs.Option.{option_map_or};
 ghost use Rattle.heap_class.specs.Refusals.{IsAnswered};

@@ -1,5 +1,5 @@
 //! A region in use, to be looked at.
-ghost use Rattle.std.specs.Prelude.{◌≡◌, ◌<◌, ◌≤◌, length, count_by, IfOk, IfSome, IsSome, is_some, option_map, slice_index, slice_index_or};
+ghost use Rattle.std.specs.Prelude.{◌≡◌, ◌<◌, ◌≤◌, length, IfOk, IfSome, IsSome, is_some, option_map, slice_index, slice_index_or};
 ghost use Rattle.heap_region.specs.Regions.{Object, UsedRegion, block_words, cell_object};
 ghost use Rattle.heap_region.specs.RegionCopies.{frozen};
 ghost use Rattle.heap_region.specs.Layout.{IsWholeRegion, words_at};

@@ -1,9 +1,9 @@
 //! A region in use: 1,024 words, cut into cells of one size, with a free list that lies in the free cells; or the words of
 //! several regions in one cell.
-ghost use Rattle.std.specs.Prelude.{◌≡◌, ℕ, ◌+◌, ◌-◌, ◌*◌, ◌/◌, ◌<◌, ◌≤◌, [], length, IfOk, IsSome, IfSome, slice_index, slice_index_or, replicate, take, drop, Some, None, is_none, is_some, option_map, slice_get, slice_set};
+ghost use Rattle.std.specs.Prelude.{◌≡◌, ◌+◌, ◌-◌, ◌*◌, ◌<◌, ◌≤◌, length, IfOk, IsSome, IfSome, slice_index, slice_index_or, take, drop, Some, None, is_none, is_some, option_map, slice_get, slice_set};
 ghost use Rattle.heap_region.specs.Regions.{FitsWords, block_words, cell_object};
 ghost use Rattle.heap_region.specs.Pool.{blank_object, cell_freed, fresh_region};
-ghost use Rattle.heap_region.specs.Layout.{IsBlockSize, IsWholeRegion, words_at, changed_at, word_set, bit_of, bit_set, with_bit, cell_filled, Heads, overwritten, header_of};
+ghost use Rattle.heap_region.specs.Layout.{IsBlockSize, IsWholeRegion, words_at, changed_at, word_set, bit_of, bit_set, cell_filled, Heads, overwritten, header_of};
 ghost use Rattle.heap_region.specs.Slots.{AreCounted};
 ghost use Rattle.heap_region.specs.Turns.{turned_by, turned_region, turned_back_region};
 ghost use Rattle.heap_region.specs.Limits.{cell_limit, heap_words};

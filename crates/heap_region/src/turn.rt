@@ -1,5 +1,5 @@
 //! Quarter turns: how the two bits that are kept of each object of a region are read.
-ghost use Rattle.std.specs.Prelude.{◌≡◌, not, if◌then◌else◌};
+ghost use Rattle.std.specs.Prelude.{◌≡◌, if◌then◌else◌};
 ghost use Rattle.heap_region.specs.Layout.{with_bit};
 ghost use Rattle.heap_region.specs.TurnedHeaders.{flipped, shown_header, turned_header, turned_back_header};
 ghost use Rattle.heap_region.specs.declared.cell.Header.{Header};

@@ -1,5 +1,5 @@
 //! Which regions wait to be swept, and the lowest of them.
-ghost use Rattle.std.specs.Prelude.{◌≡◌, ◌<◌, ◌≤◌, length, map, replicate, slice_set, true, not, IfOk};
+ghost use Rattle.std.specs.Prelude.{◌≡◌, ◌<◌, ◌≤◌, length, map, replicate, slice_set, true, IfOk};
 ghost use Rattle.memchr.specs.Find.{IsFirstByte, is_byte};
 ghost use Rattle.heap_region.specs.Limits.{region_limit};
 ghost use Rattle.heap_region.specs.Waits.{wait_turned};

@@ -1,7 +1,7 @@
 //! The machine: the current state, the retained past, and the pins on it.
 #![tactic(auto)]
 
-ghost use Rattle.std.specs.Prelude.{◌≡◌, true, false, ◌<◌, ◌≤◌, ◌+◌, ◌-◌, ℕ, List, [], length, map, None, Some, IfOk, IfErr, OnOk, OnErr};
+ghost use Rattle.std.specs.Prelude.{◌≡◌, true, false, ◌<◌, ◌≤◌, ◌-◌, ℕ, List, [], length, map, None, Some, IfOk, IfErr, OnOk, OnErr};
 ghost use Rattle.std.specs.Vec.{vec_capacity};
 ghost use Rattle.circular_buffer.specs.Buffer.{buffer};
 ghost use Rattle.heap_world.specs.Limits.{keep_limit};

@@ -1,5 +1,5 @@
 //! The ring of the records of retained steps.
-ghost use Rattle.std.specs.Prelude.{◌≡◌, ◌≤◌, ℕ, [], length, drop, option_copied, slice_get, IfOk};
+ghost use Rattle.std.specs.Prelude.{◌≡◌, ◌≤◌, [], length, drop, option_copied, slice_get, IfOk};
 ghost use Rattle.circular_buffer.specs.Buffer.{buffer};
 ghost use Rattle.heap_world.specs.Limits.{keep_limit};
 ghost use Rattle.heap_step.specs.declared.Undo.TheVariants.{Put, Store, Reg, New, Mark};

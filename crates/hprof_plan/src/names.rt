@@ -1,5 +1,5 @@
 //! Names of classes and fields that a heap takes.
-ghost use Rattle.std.specs.Prelude.{◌≡◌, ◌&&◌, ◌-◌, ◌++◌, [], codes, decimal, map, not, cond, IfOk, OnOk};
+ghost use Rattle.std.specs.Prelude.{◌≡◌, ◌&&◌, ◌++◌, [], codes, decimal, map, not, cond, IfOk, OnOk};
 ghost use Rattle.std.specs.List.{list_all};
 ghost use Rattle.heap_class.specs.Classes.{is_name, is_name_byte};
 ghost use Rattle.hprof_plan.specs.Names.{is_clean, sign_for, other_name};

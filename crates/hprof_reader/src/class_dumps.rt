@@ -1,6 +1,5 @@
 //! The sub-records of classes.
-ghost use Rattle.std.specs.Prelude.{◌≡◌, ◌≤◌, ◌-◌, length, take};
-ghost use Rattle.heap_class.specs.Kinds.{id_bytes};
+ghost use Rattle.std.specs.Prelude.{◌≡◌, ◌-◌, length, take};
 ghost use Rattle.hprof_reader.specs.Reading.{Gives};
 ghost use Rattle.hprof_reader.specs.SubRecords.{entries, class_told};
 ghost use Rattle.hprof_reader.specs.Entries.{entry, entry_parts, after_entries, table_parts, fields_table_parts};

@@ -1,5 +1,5 @@
 //! The header of a dump and its records.
-ghost use Rattle.std.specs.Prelude.{◌≡◌, ◌++◌, ◌<◌, ◌^◌, ◌*◌, ◌+◌, ℕ, List, IfOk};
+ghost use Rattle.std.specs.Prelude.{◌≡◌, ◌++◌, ℕ, List, IfOk};
 ghost use Rattle.hprof_reader.specs.Records.{Told, told, record_text, FitsRecord};
 ghost use Rattle.hprof_reader.specs.Reading.{Gives, IsRead, record_parts};
 

@@ -1,5 +1,5 @@
 //! The sub-records of a heap dump.
-ghost use Rattle.std.specs.Prelude.{◌≡◌, ◌++◌, ℕ, List, length, IfOk};
+ghost use Rattle.std.specs.Prelude.{◌≡◌, ◌++◌, ℕ, List, IfOk};
 ghost use Rattle.hprof_reader.specs.SubRecords.{Sub, sub_record, sub_text, FitsSub};
 ghost use Rattle.hprof_reader.specs.SubParts.{root_parts, instance_parts, array_parts, prim_parts, class_sub_parts, sub_parts, tagged_parts};
 ghost use Rattle.hprof_reader.specs.SubSizes.{root_size};

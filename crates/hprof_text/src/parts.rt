@@ -5,7 +5,7 @@ ghost use Rattle.byteorder.specs.Endian.{big_bytes};
 ghost use Rattle.heap_class.specs.Classes.{fields_of, name_table};
 ghost use Rattle.hprof_text.specs.SegmentContents.{HasRoom};
 ghost use Rattle.hprof_text.specs.Records.{opening_of};
-ghost use Rattle.hprof_text.specs.Text.{id, field_entry, utf8, load_class, value_bytes};
+ghost use Rattle.hprof_text.specs.Text.{field_entry, utf8, load_class, value_bytes};
 
 use crate::segment_bytes::SegmentBytes;
 use byteorder::{BigEndian, ByteOrder};

@@ -1,5 +1,5 @@
 //! The answer of `registers`.
-ghost use Rattle.std.specs.Prelude.{◌<◌, All};
+ghost use Rattle.std.specs.Prelude.{All};
 ghost use Rattle.question_words.specs.Appends.{Appends, ReturnsText};
 ghost use Rattle.question_rows.specs.Registers.{IsRegistersText, NamesKnown, named_words, register_text, register_texts};
 

@@ -1,5 +1,5 @@
 //! The answer of `status`.
-ghost use Rattle.std.specs.Prelude.{◌≡◌, ◌+◌, ◌-◌, ◌++◌, codes, flat_map, length, Option};
+ghost use Rattle.std.specs.Prelude.{◌≡◌, ◌+◌, ◌-◌, ◌++◌, codes, flat_map, length};
 ghost use Rattle.heap_mark.specs.MarkSteps.{pending_regions};
 ghost use Rattle.session_text.specs.Replies.{and_number};
 ghost use Rattle.question_words.specs.Appends.{Appends, ReturnsText};

@@ -1,5 +1,5 @@
 //! Ids, as lines have them.
-ghost use Rattle.std.specs.Prelude.{◌≡◌, ◌<◌, option_and_then};
+ghost use Rattle.std.specs.Prelude.{◌≡◌, option_and_then};
 ghost use Rattle.question_words.specs.Appends.{Appends};
 ghost use Rattle.question_words.specs.Ids.{and_id, and_reference, hex_digit, hex_from, id_of_word, with_hex};
 

@@ -1,8 +1,6 @@
 //! Dumps.
-ghost use Rattle.std.specs.Prelude.{◌≡◌, ◌≤◌, ◌++◌, length};
 ghost use Rattle.session_text.specs.Dumps.{DumpsNow, DumpsPin, WritesDump, total_line};
 ghost use Rattle.session_text.specs.Writes.{IsTextAdded};
-ghost use Rattle.session_text.specs.declared.write.TheConstants.{LINE_START};
 
 use crate::commands::Commands;
 use crate::data::write_data;

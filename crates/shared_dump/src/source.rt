@@ -1,5 +1,5 @@
 //! A source over the lock that tells what it gave.
-ghost use Rattle.std.specs.Prelude.{◌≡◌, ◌<◌, Some, IfSome, IfNone};
+ghost use Rattle.std.specs.Prelude.{◌≡◌, Some, IfSome, IfNone};
 ghost use Rattle.dump_pump.specs.declared.source.SourceEnd.TheVariants.{Lost as LostFor};
 ghost use Rattle.heap_lock.specs.Calls.{IsLegalLedger};
 ghost use Rattle.dump_pump.specs.Sources.{parts_in, parts_with};

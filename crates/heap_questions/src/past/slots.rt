@@ -1,5 +1,5 @@
 //! The changes of one slot of an object in the retained steps: a walk over the records, the newest first.
-ghost use Rattle.std.specs.Prelude.{◌≡◌, ◌++◌, reverse, Some, IfOk, IfErr, OnOk};
+ghost use Rattle.std.specs.Prelude.{◌≡◌, ◌++◌, Some, IfOk, IfErr, OnOk};
 ghost use Rattle.heap_class.specs.declared.Refusal.TheVariants.{NoMemory};
 ghost use Rattle.heap_questions.specs.Changes.{slot_word};
 ghost use Rattle.heap_questions.specs.SlotChanges.{IsWatched, IsWatchedBack, changed, word_before};

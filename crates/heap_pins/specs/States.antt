@@ -1,11 +1,12 @@
 -- The states of the cells of a region, as they are found.
-use Rattle.std.specs.Prelude.{◌≡◌, ◌≢◌, ◌≤◌, ◌<◌, ℕ, Bool, true, List, length, Option, Some, None, option_map, slice_index_or}
+use Rattle.std.specs.Prelude.{◌≡◌, ◌≢◌, ◌≤◌, ◌<◌, ℕ, Bool, true, List, length, Option, Some, None, slice_index_or}
 use Rattle.heap_class.specs.declared.ObjRef.{ObjRef}
 use Rattle.heap_region.specs.Regions.{Object, UsedRegion, Region, cell_object, object_at}
-use Rattle.heap_region.specs.RegionCopies.{frozen, frozen_word_set, region_frozen}
+use Rattle.heap_region.specs.RegionCopies.{frozen}
 use Rattle.heap_step.specs.declared.Undo.TheVariants.{Sweep}
 use Rattle.heap_world.specs.State.{HeapState}
-use Rattle.heap_pins.specs.KeptCopies.{has_copy, kept_at, with_dead}
+use Rattle.heap_pins.specs.KeptCopies.{has_copy, kept_at}
+use Rattle.heap_pins.specs.SharedCopies.{copy_with_dead, copy_with_word}
 use Rattle.heap_pins.specs.Pin.{PinContents, byte_in, cell_state, place, state_kept, state_seen, states_of_region}
 use Rattle.heap_pins.specs.Walk.{dead_state, states_before}
 
@@ -75,15 +76,13 @@ pub record AreRestored (dead : List (ℕ × Object)) (old states : List ℕ) : T
 -- the pin with a copy of a region, unless it has one, with the old word in its slot
 abbrev pub kept_word : HeapState → ObjRef → ℕ → ℕ → PinContents → PinContents
 kept_word w at slot old p =
-    kept_at at.region
-    (option_map (frozen_word_set at.cell slot old) (region_frozen w.regions at.region))
+    kept_at at.region (copy_with_word w at slot old)
     (states_of_region (states_by p (cell_states w.regions)) at.region) (has_copy at.region p) p
 
 -- the pin with a copy of a region, unless it has one, with the dead objects in their cells
 abbrev pub kept_dead : HeapState → ℕ → List (ℕ × Object) → PinContents → PinContents
 kept_dead w r dead p =
-    kept_at r (option_map (with_dead dead) (region_frozen w.regions r))
-    (states_of_region (state_with_dead p w r dead) r) (has_copy r p) p
+    kept_at r (copy_with_dead w r dead) (states_of_region (state_with_dead p w r dead) r) (has_copy r p) p
 
 -- the pin with a copy of a region that was moved out, unless it has one
 abbrev pub kept_region : ℕ → UsedRegion → PinContents → PinContents

@@ -1,23 +1,25 @@
 //! A pin: a past state as a dump needs it, kept beside the heap that goes on.
-ghost use Rattle.std.specs.Prelude.{◌≡◌, ◌<◌, [], length, None, IsSome, IfSome, IfOk, IfErr, OnOk, OnErr, slice_index_or, slice_set, replicate, is_some, All, if◌then◌else◌};
+ghost use Rattle.std.specs.Prelude.{◌≡◌, ◌<◌, [], length, None, Some, IsSome, IfSome, IfOk, IfErr, OnOk, OnErr, slice_index_or, slice_set, replicate, is_some, All, if◌then◌else◌};
 ghost use Rattle.heap_class.specs.declared.Refusal.TheVariants.{NoMemory};
 ghost use Rattle.heap_region.specs.Limits.{cell_limit};
 ghost use Rattle.heap_region.specs.Regions.{object_at, used_at};
-ghost use Rattle.heap_region.specs.RegionCopies.{region_frozen};
+ghost use Rattle.heap_region.specs.RegionCopies.{frozen, region_frozen};
 ghost use Rattle.heap_world.specs.State.{HeapState};
 ghost use Rattle.heap_step.specs.declared.Event.{Event};
 ghost use Rattle.heap_step.specs.declared.Undo.TheVariants.{Sweep};
 ghost use Rattle.heap_step.specs.Laws.{IsStep};
 ghost use Rattle.heap_pins.specs.Pin.{state_seen};
-ghost use Rattle.heap_pins.specs.KeptCopies.{ends_cycle, has_copy, kept, noted, touched, with_byte, with_dead};
-ghost use Rattle.heap_pins.specs.Shows.{AreFit, FitIn};
+ghost use Rattle.heap_pins.specs.KeptCopies.{ends_cycle, has_copy, kept, noted, touched, with_byte};
+ghost use Rattle.heap_pins.specs.SharedCopies.{SharesBefore, SharesOnly, copy_with_dead, copy_with_word};
+ghost use Rattle.heap_pins.specs.Shows.{FitIn};
 ghost use Rattle.heap_pins.specs.States.{AreOf, AreSettled, kept_dead, kept_region, kept_word};
 ghost use Rattle.heap_pins.specs.WalkedPins.{IsFreshPin};
 
 use crate::cells::{TAKEN, restore_dead, settle_states, states_now, storage_states};
 use crate::kept::{KeptRegions, blank, copied, filled, make_live};
+use crate::region_copy::{RegionCopy, dead_copy, storage_copy, word_copy};
 use heap_class::{ObjRef, Refusal};
-use heap_region::{FrozenRegion, ObjectCopy, Storage};
+use heap_region::Storage;
 use heap_step::Undo;
 use heap_sweep::DeadCells;
 use heap_world::World;
@@ -132,27 +134,35 @@ impl Pin {
 
     /// Keeps of a step what the pin needs of it, by the step's record: a copy of the region of which it overwrote a word or
     /// removed an object, if the pin has none, with what the record has of it; the cells that it took; and whether it ended a
-    /// cycle. The step must have left this record and led to this state. Fails with NoMemory if a copy can't be allocated, and
-    /// the pin is unchanged then.
-    pub fn keep(&mut self, world: &World, left: &Undo) -> Result<(), Refusal>
+    /// cycle. The step must have left this record and led to this state. Pins share the copy: `shared` is the one that other pins
+    /// have of this step, or None if none has one yet; the pin then puts its own there. Fails with NoMemory if a copy can't be
+    /// allocated, and the pin is unchanged then.
+    pub fn keep(
+        &mut self,
+        world: &World,
+        left: &Undo,
+        shared: &mut Option<RegionCopy>,
+    ) -> Result<(), Refusal>
         requires step { (e : Event) × (before : HeapState) × IsStep e before world.now left.now }
         requires sized { length self.old.copies ≡ length world.now.regions }
+        requires shared { SharesBefore left.now world.now shared.old }
         ensures kept { OnOk result (self.new ≡ kept left.now world.now self.old) }
         ensures unchanged { OnErr result (self.new ≡ self.old) }
         ensures refused { IfErr result (λ e. e ≡ NoMemory) }
         ensures touched { OnErr result (IsSome (touched left.now)) }
+        ensures shared { SharesBefore left.now world.now shared.new }
     {
         match left {
-            Undo::Put { at, slot, old } => self.keep_word(world, *at, *slot as u64, *old),
-            Undo::Store { at, slot, old, .. } => { self.keep_word(world, *at, *slot as u64, *old) }
+            Undo::Put { at, slot, old } => self.keep_word(world, *at, *slot, *old, shared),
+            Undo::Store { at, slot, old, .. } => self.keep_word(world, *at, *slot, *old, shared),
             Undo::Sweep { region, dead } => {
                 if dead.len() == 0 {
                     Ok(())
                 } else {
-                    self.keep_dead(world, *region, dead)
+                    self.keep_dead(world, *region, dead, shared)
                 }
             }
-            Undo::Reclaim { region, storage } => self.keep_region(world, *region, storage),
+            Undo::Reclaim { region, storage } => self.keep_region(world, *region, storage, shared),
             Undo::New { at, fresh, .. } => {
                 self.keep_new(*at, *fresh);
                 Ok(())
@@ -204,41 +214,56 @@ impl Pin {
         self.kept.set_bytes(region, &filled(byte));
     }
 
-    // Copies a region of which a word was overwritten, with the old word.
-    fn keep_word(&mut self, world: &World, at: ObjRef, slot: u64, old: u64) -> Result<(), Refusal>
+    // Keeps a copy of a region of which a word was overwritten, with the old word.
+    fn keep_word(
+        &mut self,
+        world: &World,
+        at: ObjRef,
+        slot: u32,
+        old: u64,
+        shared: &mut Option<RegionCopy>,
+    ) -> Result<(), Refusal>
         requires there { IsSome (object_at world.now.regions at) }
         requires within { IfSome (object_at world.now.regions at) (λ o. slot < length o.words) }
         requires sized { length self.old.copies ≡ length world.now.regions }
+        requires shared { SharesOnly (copy_with_word world.now at slot old) shared.old }
         ensures kept { OnOk result (self.new ≡ kept_word world.now at slot old self.old) }
         ensures unchanged { OnErr result (self.new ≡ self.old) }
         ensures refused { IfErr result (λ e. e ≡ NoMemory) }
+        ensures shared { SharesOnly (copy_with_word world.now at slot old) shared.new }
     {
         let region = at.region as u64;
         if self.has_copy(region) {
             return Ok(());
         }
-        let mut copy = world.regions().freeze(region)?;
-        copy.set_word(at.cell as u64, slot, old);
+        let copy = word_copy(world, at, slot as u64, old, shared)?;
         let states = self.states(world, region);
         self.kept.put(region, copy, &states);
         Ok(())
     }
 
-    // Copies a region that lost these dead objects, with them.
-    fn keep_dead(&mut self, world: &World, region: u16, dead: &DeadCells) -> Result<(), Refusal>
+    // Keeps a copy of a region that lost these dead objects, with them.
+    fn keep_dead(
+        &mut self,
+        world: &World,
+        region: u16,
+        dead: &DeadCells,
+        shared: &mut Option<RegionCopy>,
+    ) -> Result<(), Refusal>
         requires used { IsSome (used_at world.now.regions region) }
         requires fit { FitIn (region_frozen world.now.regions region) dead.now }
         requires within { All (λ d. d.0 < cell_limit) dead.now }
         requires sized { length self.old.copies ≡ length world.now.regions }
+        requires shared { SharesOnly (copy_with_dead world.now region dead.now) shared.old }
         ensures kept { OnOk result (self.new ≡ kept_dead world.now region dead.now self.old) }
         ensures unchanged { OnErr result (self.new ≡ self.old) }
         ensures refused { IfErr result (λ e. e ≡ NoMemory) }
+        ensures shared { SharesOnly (copy_with_dead world.now region dead.now) shared.new }
     {
         if self.has_copy(region as u64) {
             return Ok(());
         }
-        let mut copy = world.regions().freeze(region as u64)?;
-        put_dead(&mut copy, dead.as_slice());
+        let copy = dead_copy(world, region, dead, shared)?;
         let mut states = states_now(world.regions(), region as u64);
         restore_dead(&mut states, dead.as_slice());
         self.settle(region as u64, &mut states);
@@ -246,18 +271,26 @@ impl Pin {
         Ok(())
     }
 
-    // Copies a region that was moved out.
-    fn keep_region(&mut self, world: &World, region: u16, storage: &Storage) -> Result<(), Refusal>
+    // Keeps a copy of a region that was moved out.
+    fn keep_region(
+        &mut self,
+        world: &World,
+        region: u16,
+        storage: &Storage,
+        shared: &mut Option<RegionCopy>,
+    ) -> Result<(), Refusal>
         requires sized { region < length self.old.copies }
+        requires shared { SharesOnly (Some (frozen storage.now)) shared.old }
         ensures kept { OnOk result (self.new ≡ kept_region region storage.now self.old) }
         ensures unchanged { OnErr result (self.new ≡ self.old) }
         ensures refused { IfErr result (λ e. e ≡ NoMemory) }
+        ensures shared { SharesOnly (Some (frozen storage.now)) shared.new }
     {
         if self.has_copy(region as u64) {
             return Ok(());
         }
         let storage = storage.view();
-        let copy = storage.freeze(world.regions().allocator())?;
+        let copy = storage_copy(world.regions().allocator(), &storage, shared)?;
         let mut states = storage_states(&storage);
         self.settle(region as u64, &mut states);
         self.kept.put(region as u64, copy, &states);
@@ -304,15 +337,5 @@ impl Pin {
             Some(bytes) => copied(bytes),
             None => blank(),
         }
-    }
-}
-
-// Puts the dead objects into their cells.
-pub(crate) fn put_dead(copy: &mut FrozenRegion, dead: &[(u64, ObjectCopy)])
-    requires { AreFit copy.old.cell_size (length copy.old.cells) dead.now }
-    ensures { copy.new ≡ with_dead dead.now copy.old }
-{
-    for (cell, object) in dead {
-        copy.put(*cell, object);
     }
 }

@@ -9,9 +9,10 @@ ghost use Rattle.heap_pins.specs.WalkedPins.{Sees, SeesRoom, SeesSlot, with_copy
 ghost use Rattle.heap_region.specs.Limits.{cell_limit};
 
 use crate::cells::{EMPTY, TAKEN, restore_dead, storage_states};
-use crate::pin::{Pin, put_dead};
+use crate::pin::Pin;
+use crate::region_copy::RegionCopy;
 use heap_class::{ObjRef, Refusal};
-use heap_region::{FrozenRegion, Storage};
+use heap_region::Storage;
 use heap_step::Undo;
 use heap_sweep::DeadCells;
 use heap_world::World;
@@ -65,7 +66,7 @@ impl Pin {
 
     // Takes the copy of a region out of the pin, or copies the region if the pin has no copy of it. Fails with NoMemory if the
     // allocation fails.
-    fn take_copy(&mut self, world: &World, region: u16) -> Result<FrozenRegion, Refusal>
+    fn take_copy(&mut self, world: &World, region: u16) -> Result<RegionCopy, Refusal>
         requires sized { region < length self.old.copies }
         requires there { IsSome (region_seen self.old world.now.regions region) }
         ensures taken { IfOk result (Sees self.old world.now.regions region) }
@@ -74,7 +75,10 @@ impl Pin {
     {
         match self.kept.take_copy(region as u64) {
             Some(copy) => Ok(copy),
-            None => world.regions().freeze(region as u64),
+            None => {
+                let frozen = world.regions().freeze(region as u64)?;
+                Ok(RegionCopy::new(world.regions().allocator(), frozen)?)
+            }
         }
     }
 
@@ -88,7 +92,7 @@ impl Pin {
     {
         let states = self.states(world, at.region as u64);
         let mut copy = self.take_copy(world, at.region)?;
-        copy.set_word(at.cell as u64, slot, old);
+        copy.set_word(world.regions().allocator(), at.cell as u64, slot, old)?;
         self.kept.put(at.region as u64, copy, &states);
         Ok(())
     }
@@ -136,7 +140,7 @@ impl Pin {
         let mut states = self.states(world, region as u64);
         restore_dead(&mut states, dead.as_slice());
         let mut copy = self.take_copy(world, region)?;
-        put_dead(&mut copy, dead.as_slice());
+        copy.put_dead(world.regions().allocator(), dead.as_slice())?;
         self.kept.put(region as u64, copy, &states);
         Ok(())
     }
@@ -148,8 +152,9 @@ impl Pin {
             (self.new ≡ with_copy_before (Reclaim region storage.now) world.now region self.old) }
         ensures refused { IfErr result (λ e. e ≡ NoMemory) }
     {
+        let alloc = world.regions().allocator();
         let storage = storage.view();
-        let copy = storage.freeze(world.regions().allocator())?;
+        let copy = RegionCopy::new(alloc, storage.freeze(alloc)?)?;
         self.kept
             .put(region as u64, copy, &storage_states(&storage));
         Ok(())

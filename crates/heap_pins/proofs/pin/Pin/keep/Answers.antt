@@ -5,6 +5,7 @@ use Rattle.heap_pins.proofs.RoomForCopies.{object_within, sweep_used, sweep_fit,
 use Rattle.heap_pins.proofs.AddedCopies.{truth_holds_at_refusal}
 use Rattle.heap_pins.proofs.KeptSteps.{ok_is_kept, put_is_kept, store_is_kept, sweep_is_kept, sweep_of_none_is_kept, sweep_of_some_touches_its_region, reclaim_is_kept, other_records_keep_the_pin}
 use Rattle.heap_pins.specs.Pin.{PinContents}
+use Rattle.heap_pins.proofs.SharedCopies.{put_is_shared, put_shares, reclaim_is_shared, reclaim_shares, store_is_shared, store_shares, sweep_is_shared, sweep_shares}
 use Rattle.heap_pins.proofs.Walkable.{after_legal, cell_of_object_below_256, dead_within}
 use Rattle.heap_step.proofs.Steps.{new_record_names_an_object, put_record_names_an_object, put_record_slot_within_object, store_there, store_within}
 use Rattle.heap_pins.proofs.pin.Pin.keep.Goals as goal
@@ -15,11 +16,17 @@ keep_word-requires-clause-there c = put_record_names_an_object c.requires.step.0
 pub keep_word-requires-clause-within : goal.keep_word-requires-clause-within
 keep_word-requires-clause-within c = put_record_slot_within_object c.requires.step.0 c.requires.step.1 c.args.world.now c.args.left.now c.requires.step.2 c.in-Put.at c.in-Put.slot c.in-Put.old c.in-Put.is
 
+pub keep_word-requires-clause-shared : goal.keep_word-requires-clause-shared
+keep_word-requires-clause-shared c = put_shares c.args.left.now c.args.world.now c.args.shared.now c.in-Put.at c.in-Put.slot c.in-Put.old c.in-Put.is c.requires.shared
+
 pub keep_word-requires-in-Store-clause-there : goal.keep_word-requires-in-Store-clause-there
 keep_word-requires-in-Store-clause-there c = store_there c.requires.step.0 c.requires.step.1 c.args.world.now c.args.left.now c.requires.step.2 c.in-Store.at c.in-Store.slot c.in-Store.old _ c.in-Store.is
 
 pub keep_word-requires-in-Store-clause-within : goal.keep_word-requires-in-Store-clause-within
 keep_word-requires-in-Store-clause-within c = store_within c.requires.step.0 c.requires.step.1 c.args.world.now c.args.left.now c.requires.step.2 c.in-Store.at c.in-Store.slot c.in-Store.old _ c.in-Store.is
+
+pub keep_word-requires-in-Store-clause-shared : goal.keep_word-requires-in-Store-clause-shared
+keep_word-requires-in-Store-clause-shared c = store_shares c.args.left.now c.args.world.now c.args.shared.now c.in-Store.at c.in-Store.slot c.in-Store.old _ c.in-Store.is c.requires.shared
 
 pub keep_dead-requires-clause-used : goal.keep_dead-requires-clause-used
 keep_dead-requires-clause-used c = sweep_used c.requires.step.0 c.requires.step.1 c.args.world.now c.args.left.now c.requires.step.2 c.in-Sweep.region c.in-Sweep.dead c.in-Sweep.is
@@ -30,6 +37,9 @@ keep_dead-requires-clause-fit c = sweep_fit c.requires.step.0 c.requires.step.1 
 pub keep_dead-requires-clause-within : goal.keep_dead-requires-clause-within
 keep_dead-requires-clause-within c = dead_within c.args.world.now c.in-Sweep.region c.in-Sweep.dead (after_legal c.requires.step.0 c.requires.step.1 c.args.world.now c.args.left.now c.requires.step.2)
     (sweep_used c.requires.step.0 c.requires.step.1 c.args.world.now c.args.left.now c.requires.step.2 c.in-Sweep.region c.in-Sweep.dead c.in-Sweep.is) (sweep_fit c.requires.step.0 c.requires.step.1 c.args.world.now c.args.left.now c.requires.step.2 c.in-Sweep.region c.in-Sweep.dead c.in-Sweep.is)
+
+pub keep_dead-requires-clause-shared : goal.keep_dead-requires-clause-shared
+keep_dead-requires-clause-shared c = sweep_shares c.args.left.now c.args.world.now c.args.shared.now c.in-Sweep.region c.in-Sweep.dead c.in-Sweep.is (λ z. omega (arith, c.len.ensures, c.if-len-eq0.false, z)) c.requires.shared
 
 pub keep_new-requires-clause-region : goal.keep_new-requires-clause-region
 keep_new-requires-clause-region c = omega (arith, c.requires.sized, object_within c.args.world.now.regions c.in-New.at (new_record_names_an_object c.requires.step.0 c.requires.step.1 c.args.world.now c.args.left.now c.requires.step.2 c.in-New.at c.in-New.fresh _ _ _ c.in-New.is))
@@ -45,8 +55,11 @@ pub returns-in-Finish-clause-kept : goal.returns-in-Finish-clause-kept
 unfolding kept
 returns-in-Finish-clause-kept c = ap (λ (p : PinContents). (let t : PinContents = record p { ended = true } in t)) c.self.view_is ∙ ap (λ l. kept l c.args.world.now c.args.self.now) (sym c.in-Finish.is)
 
-pub keep_region-requires : goal.keep_region-requires
-keep_region-requires c = record { sized = subst (λ n. c.in-Reclaim.region < n) (sym c.requires.sized) (reclaim_within c.requires.step.0 c.requires.step.1 c.args.world.now c.args.left.now c.requires.step.2 c.in-Reclaim.region c.in-Reclaim.storage c.in-Reclaim.is) }
+pub keep_region-requires-clause-sized : goal.keep_region-requires-clause-sized
+keep_region-requires-clause-sized c = subst (λ n. c.in-Reclaim.region < n) (sym c.requires.sized) (reclaim_within c.requires.step.0 c.requires.step.1 c.args.world.now c.args.left.now c.requires.step.2 c.in-Reclaim.region c.in-Reclaim.storage c.in-Reclaim.is)
+
+pub keep_region-requires-clause-shared : goal.keep_region-requires-clause-shared
+keep_region-requires-clause-shared c = reclaim_shares c.args.left.now c.args.world.now c.args.shared.now c.in-Reclaim.region c.in-Reclaim.storage c.in-Reclaim.is c.requires.shared
 
 pub returns-in-Put-clause-kept : goal.returns-in-Put-clause-kept
 returns-in-Put-clause-kept c = ok_is_kept c.keep_word.result c.keep_word.new.self (λ h. h ∙ put_is_kept c.requires.step.0 c.requires.step.1 c.args.world.now c.args.self.now c.in-Put.at c.in-Put.slot c.in-Put.old (subst (IsStep c.requires.step.0 c.requires.step.1 c.args.world.now) c.in-Put.is c.requires.step.2) ∙ ap (λ l. kept l c.args.world.now c.args.self.now) (sym c.in-Put.is)) c.keep_word.ensures.kept
@@ -64,7 +77,7 @@ pub returns-in-Reclaim-clause-kept : goal.returns-in-Reclaim-clause-kept
 returns-in-Reclaim-clause-kept c = ok_is_kept c.keep_region.result c.keep_region.new.self (λ h. h ∙ reclaim_is_kept c.requires.step.0 c.requires.step.1 c.args.world.now c.args.self.now c.in-Reclaim.region c.in-Reclaim.storage (subst (IsStep c.requires.step.0 c.requires.step.1 c.args.world.now) c.in-Reclaim.is c.requires.step.2) ∙ ap (λ l. kept l c.args.world.now c.args.self.now) (sym c.in-Reclaim.is)) c.keep_region.ensures.kept
 
 pub returns-in_default : goal.returns-in_default
-returns-in_default c = record { kept = other_records_keep_the_pin c.args.left.now c.args.world.now c.args.self.now c.in_default.not-Put c.in_default.not-Store c.in_default.not-Sweep c.in_default.not-Reclaim c.in_default.not-New c.in_default.not-Finish; unchanged = tt; refused = tt; touched = tt }
+returns-in_default c = record { kept = other_records_keep_the_pin c.args.left.now c.args.world.now c.args.self.now c.in_default.not-Put c.in_default.not-Store c.in_default.not-Sweep c.in_default.not-Reclaim c.in_default.not-New c.in_default.not-Finish; unchanged = tt; refused = tt; touched = tt; shared = c.requires.shared }
 
 pub returns-in-Put-clause-touched : goal.returns-in-Put-clause-touched
 unfolding touched
@@ -81,3 +94,17 @@ returns-else-len-eq0-clause-touched c = truth_holds_at_refusal c.keep_dead.resul
 pub returns-in-Reclaim-clause-touched : goal.returns-in-Reclaim-clause-touched
 unfolding touched
 returns-in-Reclaim-clause-touched c = rw c.in-Reclaim.is (truth_holds_at_refusal c.keep_region.result (search))
+
+-- ---- what pins share
+
+pub returns-in-Put-clause-shared : goal.returns-in-Put-clause-shared
+returns-in-Put-clause-shared c = put_is_shared c.args.left.now c.args.world.now c.keep_word.new.shared c.in-Put.at c.in-Put.slot c.in-Put.old c.in-Put.is c.keep_word.ensures.shared
+
+pub returns-in-Store-clause-shared : goal.returns-in-Store-clause-shared
+returns-in-Store-clause-shared c = store_is_shared c.args.left.now c.args.world.now c.keep_word-in-Store.new.shared c.in-Store.at c.in-Store.slot c.in-Store.old _ c.in-Store.is c.keep_word-in-Store.ensures.shared
+
+pub returns-else-len-eq0-clause-shared : goal.returns-else-len-eq0-clause-shared
+returns-else-len-eq0-clause-shared c = sweep_is_shared c.args.left.now c.args.world.now c.keep_dead.new.shared c.in-Sweep.region c.in-Sweep.dead c.in-Sweep.is (λ z. omega (arith, c.len.ensures, c.if-len-eq0.false, z)) c.keep_dead.ensures.shared
+
+pub returns-in-Reclaim-clause-shared : goal.returns-in-Reclaim-clause-shared
+returns-in-Reclaim-clause-shared c = reclaim_is_shared c.args.left.now c.args.world.now c.keep_region.new.shared c.in-Reclaim.region c.in-Reclaim.storage c.in-Reclaim.is c.keep_region.ensures.shared

@@ -17,7 +17,7 @@ returns-clause-kept c =
     let r = c.args.region in
     let p = c.args.self.now in
     let free : has_copy r p ≡ false = sym c.if-has_copy.ensures in
-    copy_is_put p _ c.put.new.self r c.in_ok-copy.copy _ c.settle.new.states _ c.self.view_is c.put.ensures (ap Some (sym (rw c.view-storage.ensures at c.in_ok-copy.ensures)))
+    copy_is_put p _ c.put.new.self r c.in_ok-copy.copy _ c.settle.new.states _ c.self.view_is c.put.ensures (ap Some (sym (rw c.view-storage.ensures at c.in_ok-copy.ensures.made)))
     (settled_states_are_kept p (storage_states c.args.storage.now) r (slice_index_or p.cells r []) c.storage_states-states.result c.settle.new.states (rw c.view-storage.ensures at (c.storage_states-states.ensures r))
     c.settle.ensures refl)
     ∙ free_pin_keeps r _ _ p free

@@ -1,12 +1,7 @@
-use Rattle.std.proofs.Common.{◌≡◌, length, Some, false, IsSome, sym, ap, subst, ◌∙◌, arith}
-use Rattle.std.specs.Prelude.{option_map}
-use Rattle.heap_region.specs.Pool.{RegionPool}
-use Rattle.heap_region.specs.Regions.{used_at}
-use Rattle.heap_region.specs.RegionCopies.{frozen_word_set, region_frozen}
-use Rattle.heap_region.proofs.ShownRegions.{used_by_object}
+use Rattle.std.proofs.Common.{◌≡◌, length, false, sym, ap, ◌∙◌, arith}
 use Rattle.heap_pins.specs.KeptCopies.{has_copy}
 use Rattle.heap_pins.specs.Pin.{PinContents}
-use Rattle.heap_pins.proofs.AddedCopies.{copy_is_put, free_pin_keeps, free_states_are_kept, settled_pin_stays, slot_copied}
+use Rattle.heap_pins.proofs.AddedCopies.{copy_is_put, free_pin_keeps, free_states_are_kept, settled_pin_stays}
 use Rattle.heap_pins.proofs.RoomForCopies.{object_within}
 use Rattle.heap_pins.proofs.pin.Pin.keep_word.Goals as goal
 
@@ -15,12 +10,6 @@ has_copy-requires c = omega (arith, c.requires.sized, object_within c.args.world
 
 pub returns-then-has_copy-clause-kept : goal.returns-then-has_copy-clause-kept
 returns-then-has_copy-clause-kept c = settled_pin_stays c.args.at.region _ _ c.args.self.now (sym c.has_copy.ensures ∙ c.if-has_copy.true)
-
-pub freeze-requires : goal.freeze-requires
-freeze-requires c = subst (λ (s : RegionPool). IsSome (used_at s.regions c.args.at.region)) (sym c.regions.ensures) (used_by_object c.args.world.now.regions c.args.at c.requires.there)
-
-pub set_word-requires : goal.set_word-requires
-set_word-requires c = slot_copied c.args.world.now.regions c.args.at c.args.slot c.in_ok-copy.copy (ap (λ (s : RegionPool). region_frozen s.regions c.args.at.region) (sym c.regions.ensures) ∙ c.in_ok-copy.ensures.copied) c.requires.there c.requires.within
 
 pub states-states-requires-clause-region : goal.states-states-requires-clause-region
 states-states-requires-clause-region c = omega (arith, c.requires.sized, object_within c.args.world.now.regions c.args.at c.requires.there)
@@ -33,7 +22,5 @@ returns-clause-kept c =
     let r = c.args.at.region in
     let p = c.args.self.now in
     let free : has_copy r p ≡ false = sym c.if-has_copy.ensures in
-    let copied : region_frozen c.args.world.now.regions r ≡ Some c.in_ok-copy.copy = ap (λ (s : RegionPool). region_frozen s.regions r) (sym c.regions.ensures) ∙ c.in_ok-copy.ensures.copied in
-    let made : option_map (frozen_word_set c.args.at.cell c.args.slot c.args.old) (region_frozen c.args.world.now.regions r) ≡ Some c.set_word.new.self = ap (option_map (frozen_word_set c.args.at.cell c.args.slot c.args.old)) copied ∙ ap Some (sym c.set_word.ensures) in
-    copy_is_put p _ c.put.new.self r c.set_word.new.self _ c.states-states.result _ c.self.view_is c.put.ensures made (free_states_are_kept p c.args.world.now.regions r c.states-states.result free c.states-states.ensures)
+    copy_is_put p _ c.put.new.self r c.in_ok-copy.copy _ c.states-states.result _ c.self.view_is c.put.ensures c.in_ok-copy.ensures.made (free_states_are_kept p c.args.world.now.regions r c.states-states.result free c.states-states.ensures)
     ∙ free_pin_keeps r _ _ p free

@@ -1,15 +1,16 @@
 //! Copies of regions, which pins share.
-ghost use Rattle.std.specs.Prelude.{◌≡◌, ◌<◌, ◌⊎◌, length, Some, IsSome, IfSome, IfOk, IfErr, OnOk};
+ghost use Rattle.std.specs.Prelude.{◌≡◌, length, Some, IfOk, IfErr, OnOk};
 ghost use Rattle.heap_class.specs.declared.Refusal.TheVariants.{NoMemory};
-ghost use Rattle.heap_region.specs.Regions.{object_at, used_at};
-ghost use Rattle.heap_region.specs.RegionCopies.{frozen, frozen_word_set, frozen_words, region_frozen};
-ghost use Rattle.heap_pins.specs.KeptCopies.{with_dead};
-ghost use Rattle.heap_pins.specs.SharedCopies.{SharesOnly, copy_with_dead, copy_with_word};
-ghost use Rattle.heap_pins.specs.Shows.{AreFit, FitIn};
+ghost use Rattle.heap_world.specs.State.{HeapState};
+ghost use Rattle.heap_step.specs.declared.Event.{Event};
+ghost use Rattle.heap_step.specs.Laws.{IsStep};
+ghost use Rattle.heap_pins.specs.KeptCopies.{copy_for, patched, touched, with_dead};
+ghost use Rattle.heap_pins.specs.SharedCopies.{IsPatchable, SharesBefore};
+ghost use Rattle.heap_pins.specs.Shows.{AreFit};
 
-use heap_class::{ObjRef, Refusal};
-use heap_region::{FrozenRegion, ObjectCopy, RegionView};
-use heap_sweep::DeadCells;
+use heap_class::Refusal;
+use heap_region::{FrozenRegion, ObjectCopy};
+use heap_step::Undo;
 use heap_world::World;
 use std::alloc::{AllocError, Global};
 use std::marker::Model;
@@ -55,43 +56,17 @@ impl RegionCopy {
         &self.region
     }
 
-    // Writes a word of the object in the cell, which must have the slot. Copies the region first if the copy is shared; fails if
-    // that allocation fails.
-    pub(crate) fn set_word(
-        &mut self,
-        alloc: Global,
-        cell: u64,
-        slot: u64,
-        value: u64,
-    ) -> Result<(), AllocError>
-        requires { slot < length (frozen_words self.old cell) }
-        ensures { OnOk result (self.new ≡ frozen_word_set cell slot value self.old) }
+    // Makes of the copy, which is one of a region after the step that left this record, one of the region before the step. If it is
+    // shared, it is copied first; fails if that allocation fails.
+    pub(crate) fn patch(&mut self, alloc: Global, left: &Undo) -> Result<(), AllocError>
+        requires { IsPatchable left.now self.old }
+        ensures { OnOk result (self.new ≡ patched left.now self.old) }
     {
         match Arc::get_mut(&mut self.region) {
-            Some(own) => own.set_word(cell, slot, value),
+            Some(own) => patch(own, left),
             None => {
                 let mut own = self.region.copied(alloc)?;
-                own.set_word(cell, slot, value);
-                self.region = Arc::new(alloc, own)?;
-            }
-        }
-        Ok(())
-    }
-
-    // Puts the dead objects into their cells. Copies the region first if the copy is shared; fails if that allocation fails.
-    pub(crate) fn put_dead(
-        &mut self,
-        alloc: Global,
-        dead: &[(u64, ObjectCopy)],
-    ) -> Result<(), AllocError>
-        requires { AreFit self.old.cell_size (length self.old.cells) dead.now }
-        ensures { OnOk result (self.new ≡ with_dead dead.now self.old) }
-    {
-        match Arc::get_mut(&mut self.region) {
-            Some(own) => put_dead(own, dead),
-            None => {
-                let mut own = self.region.copied(alloc)?;
-                put_dead(&mut own, dead);
+                patch(&mut own, left);
                 self.region = Arc::new(alloc, own)?;
             }
         }
@@ -99,64 +74,62 @@ impl RegionCopy {
     }
 }
 
-// Returns a copy of a region of which a word was overwritten, with the old word. It is the shared one, or if there is none, it is
-// made and shared. Fails with NoMemory if an allocation fails.
-pub(crate) fn word_copy(
+// Returns a copy of the region that the step touched, as it was before the step that left this record and led to this state. It is
+// the shared one, or if there is none, it is made and shared. Fails with NoMemory if an allocation fails.
+pub(crate) fn copy_before(
     world: &World,
-    at: ObjRef,
-    slot: u64,
-    old: u64,
+    left: &Undo,
+    region: u64,
     shared: &mut Option<RegionCopy>,
 ) -> Result<RegionCopy, Refusal>
-    requires there { IsSome (object_at world.now.regions at) }
-    requires within { IfSome (object_at world.now.regions at) (λ o. slot < length o.words) }
-    requires shared { SharesOnly (copy_with_word world.now at slot old) shared.old }
-    ensures made { IfOk result (λ c. copy_with_word world.now at slot old ≡ Some c) }
-    ensures shared { SharesOnly (copy_with_word world.now at slot old) shared.new }
+    requires touched { touched left.now ≡ Some region }
+    requires step { (e : Event) × (before : HeapState) × IsStep e before world.now left.now }
+    requires shared { SharesBefore left.now world.now shared.old }
+    ensures made { IfOk result (λ c. copy_for left.now world.now region ≡ Some c) }
+    ensures shared { SharesBefore left.now world.now shared.new }
     ensures refused { IfErr result (λ e. e ≡ NoMemory) }
 {
     if let Some(copy) = shared {
         return Ok(copy.share()?);
     }
-    let mut copy = world.regions().freeze(at.region as u64)?;
-    copy.set_word(at.cell as u64, slot, old);
-    Ok(shared_from_now(world.regions().allocator(), copy, shared)?)
-}
-
-// Creates a copy that is shared from now on. Fails if the allocation fails.
-fn shared_from_now(
-    alloc: Global,
-    region: FrozenRegion,
-    shared: &mut Option<RegionCopy>,
-) -> Result<RegionCopy, AllocError>
-    ensures made { IfOk result (λ c. c ≡ region) }
-    ensures shared { (shared.new ≡ shared.old) ⊎ (shared.new ≡ Some region) }
-{
-    let copy = RegionCopy::new(alloc, region)?;
+    let frozen = frozen_before(world, left, region)?;
+    let copy = RegionCopy::new(world.regions().allocator(), frozen)?;
     *shared = Some(copy.share()?);
     Ok(copy)
 }
 
-// Returns a copy of a region that lost these dead objects, with them, as `word_copy` does.
-pub(crate) fn dead_copy(
-    world: &World,
-    region: u16,
-    dead: &DeadCells,
-    shared: &mut Option<RegionCopy>,
-) -> Result<RegionCopy, Refusal>
-    requires used { IsSome (used_at world.now.regions region) }
-    requires fit { FitIn (region_frozen world.now.regions region) dead.now }
-    requires shared { SharesOnly (copy_with_dead world.now region dead.now) shared.old }
-    ensures made { IfOk result (λ c. copy_with_dead world.now region dead.now ≡ Some c) }
-    ensures shared { SharesOnly (copy_with_dead world.now region dead.now) shared.new }
+// Creates a copy of the region that the step touched, as it was before the step that left this record and led to this state. Fails
+// with NoMemory if the allocation fails.
+fn frozen_before(world: &World, left: &Undo, region: u64) -> Result<FrozenRegion, Refusal>
+    requires touched { touched left.now ≡ Some region }
+    requires step { (e : Event) × (before : HeapState) × IsStep e before world.now left.now }
+    ensures made { IfOk result (λ f. copy_for left.now world.now region ≡ Some f) }
     ensures refused { IfErr result (λ e. e ≡ NoMemory) }
 {
-    if let Some(copy) = shared {
-        return Ok(copy.share()?);
+    match left {
+        Undo::Reclaim { storage, .. } => Ok(storage.view().freeze(world.regions().allocator())?),
+        _ => {
+            let mut copy = world.regions().freeze(region)?;
+            patch(&mut copy, left);
+            Ok(copy)
+        }
     }
-    let mut copy = world.regions().freeze(region as u64)?;
-    put_dead(&mut copy, dead.as_slice());
-    Ok(shared_from_now(world.regions().allocator(), copy, shared)?)
+}
+
+// Puts the record's old word or its dead objects back into a copy of the region that its step touched. What it has of a region that
+// was moved out isn't put anywhere. Takes no memory.
+#[tactic(auto, unfolding(crate::specs::KeptCopies::patched))]
+fn patch(copy: &mut FrozenRegion, left: &Undo)
+    requires { IsPatchable left.now copy.old }
+    ensures { copy.new ≡ patched left.now copy.old }
+{
+    match left {
+        Undo::Put { at, slot, old } | Undo::Store { at, slot, old, .. } => {
+            copy.set_word(at.cell as u64, *slot as u64, *old);
+        }
+        Undo::Sweep { dead, .. } => put_dead(copy, dead.as_slice()),
+        _ => {}
+    }
 }
 
 // Puts the dead objects into their cells.
@@ -167,20 +140,4 @@ fn put_dead(copy: &mut FrozenRegion, dead: &[(u64, ObjectCopy)])
     for (cell, object) in dead {
         copy.put(*cell, object);
     }
-}
-
-// Returns a copy of a region that was moved out, as `word_copy` does.
-pub(crate) fn storage_copy(
-    alloc: Global,
-    storage: &RegionView<'_>,
-    shared: &mut Option<RegionCopy>,
-) -> Result<RegionCopy, AllocError>
-    requires { SharesOnly (Some (frozen storage.now)) shared.old }
-    ensures made { IfOk result (λ c. c ≡ frozen storage.now) }
-    ensures shared { SharesOnly (Some (frozen storage.now)) shared.new }
-{
-    if let Some(copy) = shared {
-        return copy.share();
-    }
-    shared_from_now(alloc, storage.freeze(alloc)?, shared)
 }

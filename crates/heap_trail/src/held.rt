@@ -103,9 +103,7 @@ impl NumberedPin {
         ensures { MayKeep left.now world.now self.old self.new }
     {
         match &mut self.held {
-            Held::Kept { pin, .. } => {
-                let _ = pin.keep(world, left, &mut None);
-            }
+            Held::Kept { pin, .. } => pin.note(left),
             Held::Lost { .. } => {}
         }
     }

@@ -18,7 +18,7 @@ use Rattle.heap_pins.specs.Shows.{AreFit, ShowsState}
 use Rattle.heap_pins.specs.Walk.{walked_copy}
 use Rattle.heap_pins.specs.WalkedPins.{CanPatch, Sees}
 use Rattle.heap_pins.proofs.AddedCopies.{slot_copied}
-use Rattle.heap_pins.proofs.RecordCases.{by_patch, by_region, equal_options_name_same_region, record_that_touches_no_region}
+use Rattle.heap_pins.proofs.RecordCases.{by_region, equal_options_name_same_region, record_that_touches_no_region}
 use Rattle.heap_pins.proofs.RoomForCopies.{sweep_fit, sweep_used, touched_region_is_used}
 use Rattle.heap_pins.proofs.Walkable.{after_legal, dead_within}
 
@@ -90,19 +90,15 @@ patchable_region_is_seen left p w r no_reclaim can = can
 
 -- ---- the copy before the step
 
-pub patched_copy_is_for_step : (left : Undo) (v : HeapState) (r : ℕ) (f g : Frozen) → touched left ≡ Some r → ((region : ℕ) (storage : UsedRegion) → left ≡ Reclaim region storage → ⊥) → region_frozen v.regions r ≡ Some f → g ≡ patched left f → copy_for left v r ≡ Some g
-patched_copy_is_for_step left v r f g t no_reclaim there is = by_patch (λ u. left ≡ u → copy_for u v r ≡ Some g)
-    (λ u q h same. h.copy v r ∙ ap (option_map (patched u)) there ∙ ap Some (sym (is ∙ ap (λ l. patched l f) same)))
-    (λ region storage same. absurd (no_reclaim region storage same))
-    (λ u n same. record_that_touches_no_region u n r _ (ap touched (sym same) ∙ t))
-    left refl
+pub patched_copy_is_for_step : (left : Undo) (v : HeapState) (r : ℕ) (f g : Frozen) → ((region : ℕ) (storage : UsedRegion) → left ≡ Reclaim region storage → ⊥) → region_frozen v.regions r ≡ Some f → g ≡ patched left f → copy_for left v r ≡ Some g
+unfolding copy_for
+patched_copy_is_for_step (Reclaim region storage) v r f g no_reclaim there is = absurd (no_reclaim region storage refl)
+patched_copy_is_for_step left v r f g no_reclaim there is = ap (option_map (patched left)) there ∙ ap Some (sym is)
 
-pub patched_copy_is_walked : (left : Undo) (r : ℕ) (x : Option Frozen) (f g : Frozen) → touched left ≡ Some r → ((region : ℕ) (storage : UsedRegion) → left ≡ Reclaim region storage → ⊥) → x ≡ Some f → g ≡ patched left f → walked_copy left x ≡ Some g
-patched_copy_is_walked left r x f g t no_reclaim there is = by_patch (λ u. left ≡ u → walked_copy u x ≡ Some g)
-    (λ u q h same. h.walk x ∙ ap (option_map (patched u)) there ∙ ap Some (sym (is ∙ ap (λ l. patched l f) same)))
-    (λ region storage same. absurd (no_reclaim region storage same))
-    (λ u n same. record_that_touches_no_region u n r _ (ap touched (sym same) ∙ t))
-    left refl
+pub patched_copy_is_walked : (left : Undo) (x : Option Frozen) (f g : Frozen) → ((region : ℕ) (storage : UsedRegion) → left ≡ Reclaim region storage → ⊥) → x ≡ Some f → g ≡ patched left f → walked_copy left x ≡ Some g
+unfolding walked_copy
+patched_copy_is_walked (Reclaim region storage) x f g no_reclaim there is = absurd (no_reclaim region storage refl)
+patched_copy_is_walked left x f g no_reclaim there is = ap (option_map (patched left)) there ∙ ap Some (sym is)
 
 pub reclaimed_copy_is_for_step : (left : Undo) (v : HeapState) (r region : ℕ) (storage : UsedRegion) (g : Frozen) → left ≡ Reclaim region storage → g ≡ frozen storage → copy_for left v r ≡ Some g
 unfolding copy_for
@@ -124,6 +120,5 @@ walked_region_has_a_copy e before x left s p w r shows t = by_region (λ u. left
   where
     patched_copy : (u : Undo) → left ≡ u → ((region : ℕ) (storage : UsedRegion) → u ≡ Reclaim region storage → ⊥) → (f : Frozen) × (walked_copy u (region_seen p w.regions r) ≡ Some f)
     patched_copy u is no_reclaim =
-        let named : touched u ≡ Some r = ap touched (sym is) ∙ t in
-        let seen = shown_region_is_patchable e before x u (subst (IsStep e before x) is s) p w r shows named no_reclaim in
-        (patched u seen.0, patched_copy_is_walked u r (region_seen p w.regions r) seen.0 (patched u seen.0) named no_reclaim seen.1 refl)
+        let seen = shown_region_is_patchable e before x u (subst (IsStep e before x) is s) p w r shows (ap touched (sym is) ∙ t) no_reclaim in
+        (patched u seen.0, patched_copy_is_walked u (region_seen p w.regions r) seen.0 (patched u seen.0) no_reclaim seen.1 refl)

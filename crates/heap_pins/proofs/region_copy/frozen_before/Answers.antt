@@ -20,7 +20,7 @@ returns-in_ok-freeze-in-Reclaim-clause-made c = reclaimed_copy_is_for_step c.arg
 
 pub returns-in_ok-copy-in_default : goal.returns-in_ok-copy-in_default
 returns-in_ok-copy-in_default c = record {
-  made = patched_copy_is_for_step c.args.left.now c.args.world.now c.args.region c.in_ok-copy-in_default.copy c.patch.new.copy c.requires.touched c.in_default.not-Reclaim
+  made = patched_copy_is_for_step c.args.left.now c.args.world.now c.args.region c.in_ok-copy-in_default.copy c.patch.new.copy c.in_default.not-Reclaim
       (ap (λ (s : RegionPool). region_frozen s.regions c.args.region) (sym c.regions-in_default.ensures) ∙ c.in_ok-copy-in_default.ensures.copied) c.patch.ensures;
   refused = tt;
 }

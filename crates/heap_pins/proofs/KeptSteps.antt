@@ -20,7 +20,7 @@ use Rattle.heap_pins.proofs.States.{cell_states_before_step}
 
 -- ---- a step that touched a region
 
-pub touched_step_is_kept : (left : Undo) (v : HeapState) (p : PinContents) (r : ℕ) → touched left ≡ Some r → kept_if (Some r) left v p ≡ kept left v p
+touched_step_is_kept : (left : Undo) (v : HeapState) (p : PinContents) (r : ℕ) → touched left ≡ Some r → kept_if (Some r) left v p ≡ kept left v p
 unfolding kept touched
 touched_step_is_kept (New at fresh m k old) v p r t = no_region_is_named r _ t
 touched_step_is_kept (Finish log) v p r t = no_region_is_named r _ t

@@ -1,8 +1,8 @@
 #!/usr/bin/env python3
 """Converts heap dumps to sessions, and compares the heaps that these make with the dumps: `importing.py PROGRAM IMPORT`.
 
-PROGRAM is heapdbg, IMPORT heapdbg-import. The dumps are those of example sessions, which heapdbg saves, and that of a program
-in Java, where `javac` and `java` are installed. A reader of HPROF of its own reads both dumps. From the roots on, each object
+PROGRAM is heapdbg, IMPORT heapdbg-import. The dumps are those of example sessions, which heapdbg saves, two that a JVM made of
+dumps/Rings.java, which are kept beside it, and those of programs in Java, where `javac` and `java` are installed. A reader of HPROF of its own reads both dumps. From the roots on, each object
 must have the class, the values and the references of its like, but for arrays of more than 1,024 elements, which are cut unless
 the heap has an area. Bad files and bad words must be refused; what is left out must be told. `explore --hprof` must answer, and
 report, just as `explore --from` does with the session of the dump, also of dumps that are cut or have a byte changed. So must
@@ -15,6 +15,7 @@ import re
 import shutil
 import subprocess
 import sys
+import tarfile
 import tempfile
 
 TOP = pathlib.Path(__file__).resolve().parent.parent
@@ -22,7 +23,7 @@ sys.path[:0] = [str(TOP / "checks/page"), str(TOP / "checks/model")]
 
 from asking import Page  # noqa: E402
 from ports import free_port  # noqa: E402
-from servers import Server, exchanged  # noqa: E402
+from servers import Server, exchanged, memory_of  # noqa: E402
 
 LIMIT = 120
 SESSIONS = ("leak", "orders", "services", "point")
@@ -283,6 +284,13 @@ def imported(program, importer, dump, folder, *area):
         yield f"{dump.name}: {different}"
 
 
+def kept_dumps(folder):
+    """Returns the two dumps of a JVM that are kept."""
+    with tarfile.open(TOP / "checks/dumps/rings.tar.xz") as kept:
+        kept.extractall(folder)
+    return folder / "first.hprof", folder / "second.hprof"
+
+
 def java_dump(folder):
     """Returns the dump of the program in Java, or None where Java isn't installed."""
     if not (shutil.which("javac") and shutil.which("java")):
@@ -446,7 +454,7 @@ def explored(program, importer, dump, folder, *words):
 
 
 def changed(program, importer, dump, folder):
-    """Yields how `explore --hprof` differs from `explore --from` for a dump that is cut, or has one byte changed, at some places."""
+    """Yields how `explore --hprof` differs from `explore --from` for a dump that is cut, or has one byte changed, at some bytes."""
     whole, bad = dump.read_bytes(), folder / "changed.hprof"
     for place in range(0, len(whole), max(len(whole) // 40, 1)):
         bad.write_bytes(whole[:place])
@@ -501,7 +509,7 @@ def refusals(importer, dump, folder):
 
 
 def cut_dumps(importer, dump, folder):
-    """Yields what is wrong with the sessions of a dump that is cut at each of many places: a fault must be told with its place."""
+    """Yields what is wrong with the sessions of a dump that is cut at each of many bytes: a fault must be told with its byte."""
     whole, cut = dump.read_bytes(), folder / "cut.hprof"
     for size in range(40, len(whole), max(len(whole) // 60, 1)):
         cut.write_bytes(whole[:size])
@@ -526,12 +534,6 @@ def large_arrays(program, importer, folder):
             yield f"a dump whose large arrays the area has no room for: {few!r}"
 
 
-def memory_of(process):
-    """Returns the bytes that a process has taken at most, and those that it has."""
-    status = pathlib.Path(f"/proc/{process.pid}/status").read_text()
-    return [1024 * int(re.search(rf"{name}:\s+(\d+)", status)[1]) for name in ("VmHWM", "VmRSS")]
-
-
 def opened_in_little(program, folder):
     """Yields what is wrong with the memory that a dump of many objects takes while it is opened, beside its bytes and its heap."""
     session, dump = folder / "many.session", folder / "many.hprof"
@@ -544,7 +546,7 @@ def opened_in_little(program, folder):
         ran.stdin.write(b"status\n")
         ran.stdin.flush()
         ran.stdout.readline()
-        most, held = memory_of(ran)
+        most, held = memory_of(ran, "VmHWM"), memory_of(ran)
         ran.stdin.close()
         ran.wait(LIMIT)
     beside = (most - held - dump.stat().st_size) / NODES
@@ -591,6 +593,12 @@ def differences(program, importer):
         yield from cut_dumps(importer, folder / "leak-4.hprof", folder)
         yield from opened_in_little(program, folder)
         yield from paired_sessions(program, importer, folder)
+        rings = kept_dumps(folder)
+        for dump in rings:
+            yield from imported(program, importer, dump, folder)
+        yield from imported(program, importer, rings[0], folder, "--area")
+        yield from explored(program, importer, rings[1], folder, *WIDE)
+        yield from paired(program, importer, rings, folder)
         pair = java_pair(folder)
         if pair:
             yield from paired(program, importer, pair, folder)

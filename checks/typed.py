@@ -100,8 +100,8 @@ class Typed:
         return file.read()
 
     def waits_for(self, port):
-        """Returns once a port of 127.0.0.1 is listened on."""
-        self.waits_until(lambda: port in listened(), f"nothing listens on {port}")
+        """Returns once a port of 127.0.0.1, a word, is listened on."""
+        self.waits_until(lambda: int(port) in listened(), f"nothing listens on {port}")
 
     def waits_for_lines(self, count):
         """Returns once the command has written this many lines to standard output."""

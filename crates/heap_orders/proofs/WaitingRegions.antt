@@ -80,7 +80,7 @@ first_waits regions r e =
 
 -- ---- sweeps
 
--- f leaves a region that doesn't wait in place of the first that waits
+-- f leaves a region that doesn't wait instead of the first that waits
 taken_out : (f : Region → Region) → ((n : ℕ) (x : Region) → pending_number (n, f x) ≡ None) → (n r k : ℕ) (regions : List Region) → slice_get (waiting_numbers n regions) 0 ≡ Some r → r ≡ n + k → waiting_numbers n (updated k f regions) ≡ drop 1 (waiting_numbers n regions)
 unfolding updated
 taken_out f h n r k [] e is = cc

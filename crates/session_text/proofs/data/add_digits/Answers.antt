@@ -4,7 +4,7 @@ use Rattle.session_text.specs.declared.page.TheConstants.{PAGE_LIMIT}
 use Rattle.session_text.proofs.Sizes.{hex-append, length-hex}
 use Rattle.session_text.proofs.data.add_digits.Goals as goal
 
--- the page has room for the other digits
+-- the reply buffer has room for the other digits
 digits_have_room : (page rest first bytes : List ℕ) → page ++ encode_lower rest ≡ first ++ encode_lower bytes → length first + 2 * length bytes ≤ PAGE_LIMIT → length page + 2 * length rest ≤ PAGE_LIMIT
 digits_have_room page rest first bytes e h =
     omega (arith, h, ap (λ l. length l) e, length-append {A = ℕ}, length-hex rest, length-hex bytes)

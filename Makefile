@@ -68,6 +68,7 @@ bench: build ## measures times
 	bash bench/lines.sh
 	python3 bench/page.py bin/heapdbg
 	python3 bench/large.py bin/heapdbg
+	python3 bench/pauses.py bin/heapdbg
 	python3 bench/questions.py bin/heapdbg
 	python3 bench/millions.py bin/heapdbg
 

@@ -14,7 +14,8 @@ from lemma_names import LEMMA, OF_FUNCTIONS, GIVEN, shared_names
 TOP = pathlib.Path(__file__).resolve().parent.parent
 CRATES = sorted(path.parent.parent for path in TOP.glob("crates/*/src/*") if path.name in ("lib.rt", "main.rt"))
 # Crates that no other one uses: tests, and an example.
-PROGRAMS = "heap_tests", "embed_example"
+TESTS = "heap_tests", "hprof_tests"
+PROGRAMS = *TESTS, "embed_example"
 # A public function up to its body, which is empty if it is a law.
 PUBLIC = re.compile(r"(?ms)^( *)pub (?:const )?fn (\w+).*?(?:^\1(\{\}?)$| \{$)")
 MODULE = re.compile(r"Rattle\.(\w+)\.specs\.((?:\w+\.)*\w+)")
@@ -161,14 +162,14 @@ def last_line(lines, at, indent):
 def long_functions():
     """Yields functions with more than 40 lines, their clauses included, without tests."""
     for path, name, lines in functions():
-        if len(lines) > 40 and path.name != "tests.rt" and "heap_tests" not in path.parts:
+        if len(lines) > 40 and path.name != "tests.rt" and not set(TESTS) & set(path.parts):
             yield f"{path.relative_to(TOP / 'crates')} {name}: {len(lines)} lines"
 
 
 def parameters_of_tests():
-    """Yields functions of heap_tests with more than seven parameters."""
+    """Yields functions of tests with more than seven parameters."""
     for path, name, lines in functions():
-        if "heap_tests" in path.parts:
+        if set(TESTS) & set(path.parts):
             head = re.match(r"[^(]*\((.*?)\)\s*(?:->|\{|where|$)", " ".join(lines).strip())
             count = len(re.findall(r"\b\w+: ", head[1])) if head else 0
             if count > 7:

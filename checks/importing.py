@@ -1,8 +1,8 @@
 #!/usr/bin/env python3
 """Converts heap dumps to sessions, and compares the heaps that these make with the dumps: `importing.py PROGRAM IMPORT`.
 
-PROGRAM is heapdbg, IMPORT heapdbg-import. The dumps are those of example sessions, which heapdbg saves, and that of a program
-in Java, where `javac` and `java` are installed. A reader of HPROF of its own reads both dumps. From the roots on, each object
+PROGRAM is heapdbg, IMPORT heapdbg-import. The dumps are those of example sessions, which heapdbg saves, two that a JVM made of
+dumps/Rings.java, which are kept beside it, and those of programs in Java, where `javac` and `java` are installed. A reader of HPROF of its own reads both dumps. From the roots on, each object
 must have the class, the values and the references of its like, but for arrays of more than 1,024 elements, which are cut unless
 the heap has an area. Bad files and bad words must be refused; what is left out must be told. `explore --hprof` must answer, and
 report, just as `explore --from` does with the session of the dump, also of dumps that are cut or have a byte changed. So must
@@ -15,6 +15,7 @@ import re
 import shutil
 import subprocess
 import sys
+import tarfile
 import tempfile
 
 TOP = pathlib.Path(__file__).resolve().parent.parent
@@ -281,6 +282,13 @@ def imported(program, importer, dump, folder, *area):
     different = difference(Dump(dump, area), Dump(again, area))
     if different:
         yield f"{dump.name}: {different}"
+
+
+def kept_dumps(folder):
+    """Returns the two dumps of a JVM that are kept."""
+    with tarfile.open(TOP / "checks/dumps/rings.tar.xz") as kept:
+        kept.extractall(folder)
+    return folder / "first.hprof", folder / "second.hprof"
 
 
 def java_dump(folder):
@@ -591,6 +599,12 @@ def differences(program, importer):
         yield from cut_dumps(importer, folder / "leak-4.hprof", folder)
         yield from opened_in_little(program, folder)
         yield from paired_sessions(program, importer, folder)
+        rings = kept_dumps(folder)
+        for dump in rings:
+            yield from imported(program, importer, dump, folder)
+        yield from imported(program, importer, rings[0], folder, "--area")
+        yield from explored(program, importer, rings[1], folder, *WIDE)
+        yield from paired(program, importer, rings, folder)
         pair = java_pair(folder)
         if pair:
             yield from paired(program, importer, pair, folder)

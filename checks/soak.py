@@ -125,7 +125,7 @@ def line_by_lot(lot):
         (1, f"dominator {lot.choice(['', '- '])}0x{0x10000000 + lot.randrange(1 << 12) * 8:08x}"),
         (1, f"watch 0x{0x10000000 + lot.randrange(1 << 8) * 32:08x} {slot}{lot.choice(['', f' @{lot.randrange(3000)}'])}"),
         (0.3, f"writes {lot.randrange(3)} {slot}{lot.choice(['', f' @{lot.randrange(3000)}', f' @{lot.randrange(3000)} -'])}"),
-        (0.3, f"when {lot.randrange(3)} {slot} {lot.choice(['0', 'null', '7'])}{lot.choice(['', f' @{lot.randrange(3000)}', f' @{lot.randrange(3000)} -'])}"),
+        (0.3, f"when{lot.choice(['', f' @{lot.randrange(3000)}', f' @{lot.randrange(3000)} -'])} {lot.randrange(3)} {slot} {lot.choice(['0', 'null', '7'])}"),
         (1, f"values {lot.choice(['', '- '])}{lot.randrange(3)} {slot}"),
         (1, f"show {lot.choice(['', '- '])}0x{0x10000000 + lot.randrange(1 << 8) * 32:08x}{lot.choice(['', '.next', '.next.left', '.0'])}{lot.choice(['', ' 1 2', ' 9 9', ' 1', ' 3'])}"),
         (1, f"history {lot.randrange(30)}"),

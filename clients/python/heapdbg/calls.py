@@ -349,18 +349,16 @@ class Calls:
     ) -> When:
         """Returns the `When` of the first retained place at which an object of a class had this value in a slot, None for null:
         ("place", P), or ("never",). With a `Place` it is about the places from there to the current one, or to a second one."""
+        places = [] if one is None else [word_of_moment(one), word_of_moment(other)]
         words = [word_of(str(of_class)), word_of(str(slot)), "null" if value is None else str(value)]
-        if one is not None:
-            words += [word_of_moment(one), word_of_moment(other)]
-        return self.send(" ".join(["when", *words]), place_or_older)
+        return self.send(" ".join(["when", *places, *words]), place_or_older)
 
     def when_count(self, of_class: Name, count: int, one: Moment = None, other: Moment = None) -> When:
         """Returns the `When` of the first retained place at which a class had this many objects or more: ("place", P), or ("never",).
         With a `Place` it is about the places from there to the current one, or to a second one."""
-        words = [word_of(str(of_class)), str(count)]
-        if one is not None:
-            words += [word_of_moment(one), word_of_moment(other)]
-        return self.send(" ".join(["when count", *words]), place_or_older)
+        places = [] if one is None else [word_of_moment(one), word_of_moment(other)]
+        words = ["count", word_of(str(of_class)), str(count)]
+        return self.send(" ".join(["when", *places, *words]), place_or_older)
 
     def born(self, of: int, moment: Moment = None) -> When:
         """Returns the `When` of the step that made an object: ("place", P), or ("older", P). With a `Place` it is about the object

@@ -121,11 +121,17 @@ settings_keep_all_given task w u (Some r) (Some m) (Some k) (Some t) (Some i) (S
 settings_keep_all_given task w u (Some r) (Some m) (Some k) (Some t) (Some i) (Some q) (Some o) None s e = cc
 settings_keep_all_given task w u (Some r) (Some m) (Some k) (Some t) (Some i) (Some q) (Some o) (Some f) s e = (cc, cc, cc, cc, cc, cc, cc, cc, cc, cc, cc)
 
+-- the settings over a heap that is wide, or isn't, have what the rows tell
+pub settings_have_what_rows_tell : (task : Task) (rows : List Row) (w u : Bool) (s : Settings) → settings_over task rows w u ≡ Some s
+    → (s.task ≡ task) × (w ≡ s.wide) × (u ≡ s.quiet) × (regions_in task w rows ≡ Some s.regions) × (value_in mutator_numbers rows ≡ Some s.mutators) × (keep_in task w rows ≡ Some s.keep) × (value_in time_numbers rows ≡ Some s.time) × (id_size_in rows ≡ Some s.ids)
+    × (questions_in rows ≡ Some s.questions) × (rolls_in rows ≡ Some s.rolls) × (picture_rows_in rows ≡ Some s.picture_rows)
+settings_have_what_rows_tell task rows w u s found = settings_keep_all_given task w u (regions_in task w rows) (value_in mutator_numbers rows) (keep_in task w rows) (value_in time_numbers rows) (id_size_in rows) (questions_in rows) (rolls_in rows) (picture_rows_in rows) s found
+
 -- the settings over a heap that is wide, or isn't, with the area that the rows tell, are those of the rows
 settings_with_area_are_read : (task : Task) (rows : List Row) (w u : Bool) (s : Settings) (area : ℕ) → wide_in rows ≡ Some w → quiet_in rows ≡ Some u → settings_over task rows w u ≡ Some s → area_in s.task s.wide s.regions rows ≡ Some area
     → (s.task ≡ task) × AreRead rows (record s { area = area })
 settings_with_area_are_read task rows w u s area wide quiet found told =
-    let there = settings_keep_all_given task w u (regions_in task w rows) (value_in mutator_numbers rows) (keep_in task w rows) (value_in time_numbers rows) (id_size_in rows) (questions_in rows) (rolls_in rows) (picture_rows_in rows) s found in
+    let there = settings_have_what_rows_tell task rows w u s found in
     let same : w ≡ s.wide = there.1 in (
       there.0,
       record {
@@ -155,7 +161,7 @@ settings_are_read_from_rows task rows w u base s wide quiet found told = go (are
 -- the settings without an area tell what its limit hangs on
 pub settings_tell_regions : (task : Task) (rows : List Row) (w u : Bool) (s : Settings) → wide_in rows ≡ Some w → settings_over task rows w u ≡ Some s → (wide_in rows ≡ Some s.wide) × (regions_in s.task s.wide rows ≡ Some s.regions)
 settings_tell_regions task rows w u s wide found =
-    let there = settings_keep_all_given task w u (regions_in task w rows) (value_in mutator_numbers rows) (keep_in task w rows) (value_in time_numbers rows) (id_size_in rows) (questions_in rows) (rolls_in rows) (picture_rows_in rows) s found in
+    let there = settings_have_what_rows_tell task rows w u s found in
     let same : w ≡ s.wide = there.1 in (
       wide ∙ ap (λ b. Some b) same,
       ap (λ t. regions_in t s.wide rows) there.0 ∙ (ap (λ b. regions_in task b rows) (sym same) ∙ there.3),

@@ -3,8 +3,6 @@
 
 mod conversion;
 mod report;
-#[cfg(test)]
-mod tests;
 
 pub use conversion::{Converted, Failure, convert, elements_with, left_out_of};
 pub use report::tell_left_out;

@@ -9,8 +9,6 @@ mod roots;
 mod session;
 mod slots;
 mod static_objects;
-#[cfg(test)]
-mod tests;
 mod values;
 
 pub use left_out::{LeftOut, count_left_out};

@@ -13,8 +13,6 @@ mod pair;
 mod roots;
 mod session;
 mod shapes;
-#[cfg(test)]
-mod tests;
 mod ways;
 
 pub use conversion::{BothConverted, PairFailure, convert_pair};

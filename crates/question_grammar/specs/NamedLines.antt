@@ -13,7 +13,7 @@ use Rattle.question_grammar.specs.declared.question.Question.TheVariants.{Object
 use Rattle.question_words.specs.declared.ranges.Span.{Span}
 use Rattle.question_grammar.specs.Bookmarks.{Bookmarks, default_at}
 use Rattle.question_grammar.specs.NameWords.{class_and_slot_named, class_of_word, id_and_slot_named}
-use Rattle.question_grammar.specs.Questions.{QuestionRule, at_of_word, place_of_word, question_by, question_of, span_of, value_of_word}
+use Rattle.question_grammar.specs.Questions.{QuestionRule, SpanAndClass, at_of_word, place_of_word, question_by, question_of, span_and_class, span_of, value_of_word}
 
 -- the objects of a class with a value in a slot, which three words name
 unfoldable pub holding_named : List Class → List ℕ → List ℕ → List ℕ → Option Wanted
@@ -74,30 +74,31 @@ writes_named b classes (w ∷ v ∷ ws) =
     option_and_then (λ slot. option_map (λ span. (slot, span)) (span_of b ws))
     (class_and_slot_named classes w v)
 
--- the objects of class k with a value in a slot, and the places, that the words name
-abbrev pub holding_and_span_named : Bookmarks → List Class → List ℕ → List (List ℕ)
-    → Option (Wanted × Span)
-holding_and_span_named b classes k [] = None
-holding_and_span_named b classes k (s ∷ []) = None
-holding_and_span_named b classes k (s ∷ v ∷ ws) =
-    option_and_then (λ wanted. option_map (λ span. (wanted, span)) (span_of b ws))
-    (holding_named classes k s v)
+-- the objects of class k that have the value in the slot that the words name
+abbrev pub holding_behind_named : List Class → List ℕ → List (List ℕ) → Option Wanted
+holding_behind_named classes k [] = None
+holding_behind_named classes k (s ∷ []) = None
+holding_behind_named classes k (s ∷ v ∷ ws) =
+    option_and_then (λ wanted. at_end wanted ws) (holding_named classes k s v)
 
--- the class, how many objects it has at least, and the places, that the words name
-abbrev pub count_and_span_named : Bookmarks → List Class → List (List ℕ) → Option ((ℕ × ℕ) × Span)
-count_and_span_named b classes [] = None
-count_and_span_named b classes (k ∷ ws) =
+-- the class, and how many objects it has at least, that the words name
+abbrev pub count_named : List Class → List (List ℕ) → Option (ℕ × ℕ)
+count_named classes [] = None
+count_named classes (k ∷ ws) =
     option_and_then
-    (λ k. option_and_then (λ n. option_map (λ span. ((k, n.0), span)) (span_of b n.1)) (next_number ws))
+    (λ k. option_and_then (λ n. at_end (k, n.0) n.1) (next_number ws))
     (class_of_word classes k)
 
--- after `count` a class and how many objects it has at least, else a class, a slot and a value; and the places
+-- for these steps: after `count` a class and how many objects it has at least, else a class, a slot and a value
+abbrev pub when_within_named : List Class → SpanAndClass → Option Question
+when_within_named classes s =
+    if bytes_eq s.1.0 (codes "count")
+    then option_map (λ n. WhenCount n.0 n.1 s.0) (count_named classes s.1.1)
+    else option_map (λ wanted. When wanted s.0) (holding_behind_named classes s.1.0 s.1.1)
+
+-- the places, if they are named, and what is looked for there
 unfoldable pub when_named : Bookmarks → List Class → List (List ℕ) → Option Question
-when_named b classes [] = None
-when_named b classes (w ∷ ws) =
-    if bytes_eq w (codes "count")
-    then option_map (λ a. WhenCount a.0.0 a.0.1 a.1) (count_and_span_named b classes ws)
-    else option_map (λ a. When a.0 a.1) (holding_and_span_named b classes w ws)
+when_named b classes ws = option_and_then (λ s. when_within_named classes s) (span_and_class b ws)
 
 -- ---- the table of questions that take a class or a slot
 

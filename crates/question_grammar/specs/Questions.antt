@@ -1,7 +1,7 @@
 -- The lines of questions.
 use Rattle.std.specs.Prelude.{ℕ, List, [], ◌∷◌, take, drop, find, codes, Option, Some, None, option_map, option_and_then, if◌then◌else◌, nat_le, nat_lt, ◌&&◌}
 use Rattle.std.specs.Str.{bytes_eq}
-use Rattle.session_grammar.specs.Grammar.{at_end, next_number, number_of_word, words_of_line}
+use Rattle.session_grammar.specs.Grammar.{at_end, next_number, number_of_word, two_numbers, words_of_line}
 use Rattle.question_words.specs.declared.at.At.{At}
 use Rattle.question_words.specs.declared.at.At.TheVariants.{Current, Pin, Place}
 use Rattle.question_grammar.specs.declared.question.Question.{Question}
@@ -216,20 +216,43 @@ holding k s v =
 
 -- ---- the words after `when`
 
--- the objects of class k with a value in a slot, and the places, that the words name
-abbrev pub holding_and_span : Bookmarks → List ℕ → List (List ℕ) → Option (Wanted × Span)
-holding_and_span b k [] = None
-holding_and_span b k (s ∷ []) = None
-holding_and_span b k (s ∷ v ∷ ws) =
-    option_and_then (λ wanted. option_map (λ span. (wanted, span)) (span_of b ws)) (holding k s v)
+-- the steps, the word of a class, and the words behind it
+abbrev pub SpanAndClass : Type 0
+SpanAndClass = Span × (List ℕ × List (List ℕ))
 
--- after `count` a class and how many objects it has at least, else a class, a slot and a value; and the places
+-- from the first place on: up to that of word w, if it names one, and then the next word is the class; else w is the class
+abbrev pub class_up_to : Option ℕ → Option (Option ℕ) → List ℕ → List (List ℕ) → Option SpanAndClass
+class_up_to after None w ws = Some (Between after None, (w, ws))
+class_up_to after (Some to) w [] = None
+class_up_to after (Some to) w (v ∷ vs) = Some (Between after to, (v, vs))
+
+-- the same from the place of word w on, if it names one; else w is the class, and all steps are meant
+abbrev pub class_behind : Bookmarks → Option (Option ℕ) → List ℕ → List (List ℕ) → Option SpanAndClass
+class_behind b None w ws = Some (AllSteps, (w, ws))
+class_behind b (Some after) w [] = None
+class_behind b (Some after) w (v ∷ vs) = class_up_to after (place_of_word b v) v vs
+
+-- the steps that up to two places name, and the class: the first word that names no place
+abbrev pub span_and_class : Bookmarks → List (List ℕ) → Option SpanAndClass
+span_and_class b [] = None
+span_and_class b (w ∷ ws) = class_behind b (place_of_word b w) w ws
+
+-- the objects of class k that have the value in the slot that the words name
+abbrev pub holding_behind : List ℕ → List (List ℕ) → Option Wanted
+holding_behind k [] = None
+holding_behind k (s ∷ []) = None
+holding_behind k (s ∷ v ∷ ws) = option_and_then (λ wanted. at_end wanted ws) (holding k s v)
+
+-- for these steps: after `count` a class and how many objects it has at least, else a class, a slot and a value
+abbrev pub when_within : SpanAndClass → Option Question
+when_within s =
+    if bytes_eq s.1.0 (codes "count")
+    then option_map (λ n. WhenCount n.0 n.1 s.0) (two_numbers s.1.1)
+    else option_map (λ wanted. When wanted s.0) (holding_behind s.1.0 s.1.1)
+
+-- the places, if they are named, and what is looked for there
 abbrev pub when_of : Bookmarks → List (List ℕ) → Option Question
-when_of b [] = None
-when_of b (w ∷ ws) =
-    if bytes_eq w (codes "count")
-    then option_map (λ a. WhenCount a.0.0 a.0.1 a.1) (numbers_and_span b ws)
-    else option_map (λ a. When a.0 a.1) (holding_and_span b w ws)
+when_of b ws = option_and_then (λ s. when_within s) (span_and_class b ws)
 
 -- ---- the words after `dominators`
 

@@ -1,11 +1,13 @@
 //! Lines of questions that name classes and fields.
 ghost use Rattle.std.specs.Prelude.{◌≡◌};
 ghost use Rattle.session_grammar.specs.Grammar.{words_of_line};
-ghost use Rattle.question_grammar.specs.NamedLines.{count_and_span_named, holding_and_span_named, holding_named, named_question_of_words, objects_named, question_in, values_named, watch_named, when_named, write_named, writes_named};
+ghost use Rattle.question_grammar.specs.NamedLines.{count_named, holding_behind_named, holding_named, named_question_of_words, objects_named, question_in, values_named, watch_named, when_named, write_named, writes_named};
 
 use crate::bookmarks::Bookmarks;
 use crate::name_words::{class_and_slot_named, class_of, id_and_slot_named};
-use crate::question::{Question, at_of, place_of_word, question_of, span_of, value_of};
+use crate::question::{
+    Question, at_of, place_of_word, question_of, span_and_class, span_of, value_of,
+};
 use heap_class::FirstClasses;
 use heap_questions::Wanted;
 use heap_world::World;
@@ -178,7 +180,8 @@ fn writes_named(
     Some((slot, span_of(bookmarks, words)?))
 }
 
-// Reads the words behind `when`: behind `count` a class and a number of objects, else a class, a slot and a value; and the places.
+// Reads the words behind `when`: up to two places, and then behind `count` a class and a number of objects, else a class, a slot
+// and a value.
 #[tactic(auto, unfolding(crate::specs::NamedLines::when_named))]
 fn when_named(
     bookmarks: &Bookmarks,
@@ -187,41 +190,34 @@ fn when_named(
 ) -> Option<Question>
     ensures { result ≡ when_named bookmarks.now classes.now (words_of_line words.entry) }
 {
-    let word = words.next_word()?;
-    if is_word(word, b"count") {
-        let ((class, least), span) = count_and_span_named(bookmarks, classes, words)?;
+    let (span, class) = span_and_class(bookmarks, &mut words)?;
+    if is_word(class, b"count") {
+        let (class, least) = count_named(classes, words)?;
         return Some(Question::WhenCount { class, least, span });
     }
-    let (wanted, span) = holding_and_span_named(bookmarks, classes, word, words)?;
+    let wanted = holding_behind_named(classes, class, words)?;
     Some(Question::When { wanted, span })
 }
 
-// Returns the class, the number of objects, and the places, that the words name.
-fn count_and_span_named(
-    bookmarks: &Bookmarks,
-    classes: &FirstClasses<'_>,
-    mut words: Words,
-) -> Option<((u64, u64), Span)>
-    ensures { result ≡ count_and_span_named bookmarks.now classes.now (words_of_line words.entry) }
+// Returns the class and the number of objects that the words name.
+fn count_named(classes: &FirstClasses<'_>, mut words: Words) -> Option<(u64, u64)>
+    ensures { result ≡ count_named classes.now (words_of_line words.entry) }
 {
     let word = words.next_word()?;
     let class = class_of(classes, word)?;
     let least = next_number(&mut words)?;
-    Some(((class, least), span_of(bookmarks, words)?))
+    at_end((class, least), words)
 }
 
-// Returns the objects of a class with a value in a slot, and the places, that the words name.
-fn holding_and_span_named(
-    bookmarks: &Bookmarks,
+// Returns the objects of a class that have the value in the slot that the words name.
+fn holding_behind_named(
     classes: &FirstClasses<'_>,
     class: &[u8],
     mut words: Words,
-) -> Option<(Wanted, Span)>
-    ensures { result
-        ≡ holding_and_span_named bookmarks.now classes.now class.now (words_of_line words.entry) }
+) -> Option<Wanted>
+    ensures { result ≡ holding_behind_named classes.now class.now (words_of_line words.entry) }
 {
     let slot = words.next_word()?;
     let value = words.next_word()?;
-    let wanted = holding_named(classes, class, slot, value)?;
-    Some((wanted, span_of(bookmarks, words)?))
+    at_end(holding_named(classes, class, slot, value)?, words)
 }

@@ -1,13 +1,13 @@
 //! The grammar of questions.
-ghost use Rattle.std.specs.Prelude.{◌≡◌, drop};
+ghost use Rattle.std.specs.Prelude.{◌≡◌, drop, option_map};
 ghost use Rattle.session_grammar.specs.Grammar.{words_of_line};
 ghost use Rattle.question_words.specs.Ids.{id_of_word};
-ghost use Rattle.question_grammar.specs.Questions.{at_and_paths, at_and_slot, at_and_wanted, at_of_word, at_or_number, class_and_slot, dominated_by, dominators_by, dominators_of, holding, holding_and_span, id_and_number, id_and_paths, numbers_and_span, one_id, optional_at, optional_at_and_id, optional_ats, past_rules, path_count, place_and_id, place_and_number, place_and_slot, place_behind, place_of, place_of_word, question_by, question_of, question_rules, show_by, show_of, slot_and_place, slots_named, span_of, value_of_word, wanted_of, when_of};
+ghost use Rattle.question_grammar.specs.Questions.{at_and_paths, at_and_slot, at_and_wanted, at_of_word, at_or_number, class_and_slot, dominated_by, dominators_by, dominators_of, holding, holding_behind, id_and_number, id_and_paths, numbers_and_span, one_id, optional_at, optional_at_and_id, optional_ats, past_rules, path_count, place_and_id, place_and_number, place_and_slot, place_behind, place_of, place_of_word, question_by, question_of, question_rules, show_by, show_of, slot_and_place, slots_named, span_and_class, span_of, value_of_word, wanted_of, when_of};
 
 use crate::bookmarks::Bookmarks;
 use heap_questions::Wanted;
 use question_words::{At, SlotRange, Span, id_of};
-use session_grammar::command::{at_end, next_number};
+use session_grammar::command::{at_end, next_number, two_numbers};
 use session_grammar::number::number_of;
 use session_grammar::words::{Words, is_word};
 
@@ -525,27 +525,27 @@ fn numbers_and_span(bookmarks: &Bookmarks, mut words: Words) -> Option<((u64, u6
     Some(((first, second), span_of(bookmarks, words)?))
 }
 
-// Reads the words behind `when`: behind `count` a class and a number of objects, else a class, a slot and a value; and the places.
+// Reads the words behind `when`: up to two places, and then behind `count` a class and a number of objects, else a class, a slot
+// and a value.
 fn when_of(bookmarks: &Bookmarks, mut words: Words) -> Option<Question>
     ensures { result ≡ when_of bookmarks.now (words_of_line words.entry) }
 {
-    let word = words.next_word()?;
-    if is_word(word, b"count") {
-        let ((class, least), span) = numbers_and_span(bookmarks, words)?;
+    let (span, class) = span_and_class(bookmarks, &mut words)?;
+    if is_word(class, b"count") {
+        let (class, least) = two_numbers(words)?;
         return Some(Question::WhenCount { class, least, span });
     }
-    let (wanted, span) = holding_and_span(bookmarks, word, words)?;
+    let wanted = holding_behind(class, words)?;
     Some(Question::When { wanted, span })
 }
 
-// Returns the objects of a class with a value in a slot, and the places, that the words name.
-fn holding_and_span(bookmarks: &Bookmarks, class: &[u8], mut words: Words) -> Option<(Wanted, Span)>
-    ensures { result ≡ holding_and_span bookmarks.now class.now (words_of_line words.entry) }
+// Returns the objects of a class that have the value in the slot that the words name.
+fn holding_behind(class: &[u8], mut words: Words) -> Option<Wanted>
+    ensures { result ≡ holding_behind class.now (words_of_line words.entry) }
 {
     let slot = words.next_word()?;
     let value = words.next_word()?;
-    let wanted = holding(class, slot, value)?;
-    Some((wanted, span_of(bookmarks, words)?))
+    at_end(holding(class, slot, value)?, words)
 }
 
 // Returns the objects of a class with a value in a slot, which three words name.
@@ -555,6 +555,27 @@ fn holding(class: &[u8], slot: &[u8], value: &[u8]) -> Option<Wanted>
     let (class, slot) = class_and_slot(class, slot)?;
     let word = value_of(value)?;
     Some(Wanted::Holding { class, slot, word })
+}
+
+// Reads up to two places, and the word of a class: the first word that names no place. Returns the steps that the places name, and
+// that word.
+pub(crate) fn span_and_class<'a>(
+    bookmarks: &Bookmarks,
+    words: &mut Words<'a>,
+) -> Option<(Span, &'a [u8])>
+    ensures { option_map (λ r. (r.0, (r.1.now, words_of_line words.new))) result
+        ≡ span_and_class bookmarks.now (words_of_line words.old) }
+{
+    let first = words.next_word()?;
+    let Some(after) = place_of_word(bookmarks, first) else {
+        return Some((Span::AllSteps, first));
+    };
+    let second = words.next_word()?;
+    let Some(to) = place_of_word(bookmarks, second) else {
+        return Some((Span::Between { after, to: None }, second));
+    };
+    let class = words.next_word()?;
+    Some((Span::Between { after, to }, class))
 }
 
 // Returns the word that a word tells: an id, `null` or a number. Returns None if it tells none.

@@ -51,7 +51,7 @@ past_forms =
     ∷ form_of (codes "writes") (codes "writes CLASS SLOT [@PLACE [@PLACE]]")
     (codes "writes server/Entry state")
     (codes "each retained step that changed a slot of some object of a class")
-    ∷ form_of (codes "when") (codes "when (CLASS SLOT VALUE | count CLASS N) [@PLACE [@PLACE]]")
+    ∷ form_of (codes "when") (codes "when [@PLACE [@PLACE]] (CLASS SLOT VALUE | count CLASS N)")
     (codes "when server/Entry state 42")
     (codes "the first place at which an object of a class has a value, or the class has N objects")
     ∷ form_of (codes "dropped") (codes "dropped [@PLACE] ID") (codes "dropped 0x10000020")

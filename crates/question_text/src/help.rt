@@ -56,7 +56,7 @@ fn past_help(word: &[u8]) -> Option<&'static [u8]>
         b"wrote" => Some(b"row wrote [@PLACE] ID SLOT\nrow wrote 0x10000020 next\nrow # the newest step that changed a slot\nok\n"),
         b"watch" => Some(b"row watch ID SLOT [@PLACE]\nrow watch 0x10000020 next\nrow # each retained step that changed a slot\nok\n"),
         b"writes" => Some(b"row writes CLASS SLOT [@PLACE [@PLACE]]\nrow writes server/Entry state\nrow # each retained step that changed a slot of some object of a class\nok\n"),
-        b"when" => Some(b"row when (CLASS SLOT VALUE | count CLASS N) [@PLACE [@PLACE]]\nrow when server/Entry state 42\nrow # the first place at which an object of a class has a value, or the class has N objects\nok\n"),
+        b"when" => Some(b"row when [@PLACE [@PLACE]] (CLASS SLOT VALUE | count CLASS N)\nrow when server/Entry state 42\nrow # the first place at which an object of a class has a value, or the class has N objects\nok\n"),
         b"dropped" => Some(b"row dropped [@PLACE] ID\nrow dropped 0x10000020\nrow # the step since which no register reaches an object\nok\n"),
         b"life" => Some(b"row life ID\nrow life 0x10000020\nrow # what became of each object that had this ID\nok\n"),
         b"history" => Some(b"row history [@PLACE] N\nrow history 10\nrow # what the newest N steps did and overwrote\nok\n"),
@@ -136,7 +136,7 @@ pub fn all_help() -> &'static [u8]
         row rewind N|@P\nrow open [AT]\nrow piece PIN\nrow dump PIN\nrow close PIN\nrow end\n\
         row histogram [AT]\nrow garbage [AT]\nrow growth [AT [AT]]\nrow kept [AT [AT]]\nrow diff [AT [AT]]\nrow registers [AT]\nrow classes [AT]\n\
         row objects [AT] [CLASS [SLOT VALUE]]\nrow values [AT] CLASS SLOT\nrow referrers [AT] ID\nrow path [AT] ID\nrow paths [AT] ID N\nrow retained [AT] ID\nrow dominators [AT] [ID] [N]\nrow dominator [AT] ID\nrow show [AT] ID[.FIELD ..] [DEPTH | FROM N]\n\
-        row born [@PLACE] ID\nrow wrote [@PLACE] ID SLOT\nrow watch ID SLOT [@PLACE]\nrow writes CLASS SLOT [@PLACE [@PLACE]]\nrow when (CLASS SLOT VALUE | count CLASS N) [@PLACE [@PLACE]]\nrow dropped [@PLACE] ID\nrow life ID\nrow history [@PLACE] N\nrow cycles\nrow pins\nrow cells\nrow regions [AT]\nrow status\nrow collect\nrow forward N|@P\nrow at -|@P\nrow name WORD\n\
+        row born [@PLACE] ID\nrow wrote [@PLACE] ID SLOT\nrow watch ID SLOT [@PLACE]\nrow writes CLASS SLOT [@PLACE [@PLACE]]\nrow when [@PLACE [@PLACE]] (CLASS SLOT VALUE | count CLASS N)\nrow dropped [@PLACE] ID\nrow life ID\nrow history [@PLACE] N\nrow cycles\nrow pins\nrow cells\nrow regions [AT]\nrow status\nrow collect\nrow forward N|@P\nrow at -|@P\nrow name WORD\n\
         row help WORD\nok\n"
 }
 

@@ -75,8 +75,8 @@ pub fn one_number(mut words: Words) -> Option<u64>
     at_end(a, words)
 }
 
-// Returns the two numbers that the words are.
-fn two_numbers(mut words: Words) -> Option<(u64, u64)>
+/// Returns the two numbers that the words are.
+pub fn two_numbers(mut words: Words) -> Option<(u64, u64)>
     ensures { result ≡ two_numbers (words_of_line words.entry) }
 {
     let a = next_number(&mut words)?;

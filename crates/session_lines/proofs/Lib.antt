@@ -1,3 +1,4 @@
 pub mod SpacedWords
 pub mod EventWords
 pub mod MoreLines
+pub mod Digits

@@ -1,5 +1,5 @@
 //! The line of an event.
-ghost use Rattle.std.specs.Prelude.{◌++◌, ◌∷◌, [], codes, decimal, map};
+ghost use Rattle.std.specs.Prelude.{◌++◌, ◌∷◌, ◌<◌, [], codes, decimal, map};
 ghost use Rattle.heap_class.specs.Kinds.{kind_word};
 ghost use Rattle.session_lines.specs.EventLines.{Appends, and_words, event_text, field_word, super_word};
 
@@ -26,28 +26,28 @@ fn push_text(text: &mut Vec<u8>, event: &Event) -> Result<(), AllocError>
         Event::ArrayClass { name } => push_array_class(text, name.as_bytes()),
         Event::New { m, r, class } => push_line(text, b"new", &[*m, *r, *class]),
         Event::NewArray { m, r, class, len } => {
-            push_line(text, b"newarray", &[*m, *r, *class, *len])
+            push_four(text, b"newarray", &[*m, *r, *class, *len])
         }
         Event::NewPrim { m, r, kind, len } => push_new_prim(text, *m, *r, *kind, *len),
-        Event::Load { m, to, from, slot } => push_line(text, b"load", &[*m, *to, *from, *slot]),
+        Event::Load { m, to, from, slot } => push_four(text, b"load", &[*m, *to, *from, *slot]),
         Event::Store {
             m,
             target,
             slot,
             source,
-        } => { push_line(text, b"store", &[*m, *target, *slot, *source]) }
+        } => { push_four(text, b"store", &[*m, *target, *slot, *source]) }
         Event::Put {
             m,
             target,
             slot,
             value,
-        } => { push_line(text, b"put", &[*m, *target, *slot, *value]) }
+        } => { push_four(text, b"put", &[*m, *target, *slot, *value]) }
         Event::Move {
             m,
             to,
             from_m,
             from,
-        } => { push_line(text, b"move", &[*m, *to, *from_m, *from]) }
+        } => { push_four(text, b"move", &[*m, *to, *from_m, *from]) }
         Event::Clear { m, r } => push_line(text, b"clear", &[*m, *r]),
         Event::Snap => push_words(text, b"snap"),
         Event::Mark => push_words(text, b"mark"),
@@ -93,9 +93,13 @@ fn push_super(text: &mut Vec<u8>, sup: Option<ClassNo>) -> Result<(), AllocError
 }
 
 // Appends a space and a number. Fails if an allocation fails.
+#[tactic(auto, using(crate::proofs::Digits::digit_is_spaced))]
 fn push_number(text: &mut Vec<u8>, n: u64) -> Result<(), AllocError>
     ensures { Appends (32 ∷ decimal n) text.old.items text.new.items result }
 {
+    if n < 10 {
+        return push_words(text, &[b' ', b'0' + n as u8]);
+    }
     push_words(text, b" ")?;
     push_words(text, itoa::Buffer::new().format(n).as_bytes())
 }
@@ -147,6 +151,31 @@ fn push_numbers(text: &mut Vec<u8>, numbers: &[u64]) -> Result<(), AllocError>
         push_number(text, *n)?;
     }
     Ok(())
+}
+
+// Appends a verb, and four numbers with a space before each. Fails if an allocation fails.
+fn push_four(text: &mut Vec<u8>, verb: &[u8], numbers: &[u64; 4]) -> Result<(), AllocError>
+    ensures { Appends (verb.now ++ and_words (map decimal numbers.now))
+        text.old.items text.new.items result }
+{
+    let [a, b, c, d] = *numbers;
+    if a < 10 && b < 10 && c < 10 {
+        push_words(text, verb)?;
+        push_digits(text, a, b, c)?;
+        return push_number(text, d);
+    }
+    push_line(text, verb, numbers)
+}
+
+// Appends three numbers of a digit, with a space before each. Fails if an allocation fails.
+#[tactic(auto, using(crate::proofs::Digits::digits_are_spaced))]
+fn push_digits(text: &mut Vec<u8>, a: u64, b: u64, c: u64) -> Result<(), AllocError>
+    requires { (a < 10) × (b < 10) × (c < 10) }
+    ensures { Appends (and_words (decimal a ∷ decimal b ∷ decimal c ∷ []))
+        text.old.items text.new.items result }
+{
+    let (a, b, c) = (b'0' + a as u8, b'0' + b as u8, b'0' + c as u8);
+    push_words(text, &[b' ', a, b' ', b, b' ', c])
 }
 
 // Appends the line of a new array of values. Fails if an allocation fails.

@@ -1,6 +1,6 @@
 //! Sessions of the smallest dumps, worked out by hand.
-use super::*;
 use dump_pump::WriteOutlet;
+use hprof_convert::{Converted, Failure, convert};
 use std::test::*;
 
 // A header with identifiers of 4 bytes, and then a record of which the last byte is missing.

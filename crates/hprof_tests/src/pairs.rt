@@ -1,6 +1,6 @@
 //! The session of two small dumps, worked out by hand.
-use super::*;
 use dump_pump::WriteOutlet;
+use hprof_pair::{PairFailure, convert_pair};
 use std::test::*;
 
 // A dump with identifiers of 4 bytes: the names 1 to 3, class 10 with a reference and an int, the root FF of object 31, which names

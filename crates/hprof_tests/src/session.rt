@@ -1,7 +1,7 @@
 //! The session of a small dump, worked out by hand.
-use super::*;
 use dump_pump::WriteOutlet;
 use heap_class::{Classes, Field, Fields, IdSize, Kind, Name, NewClass, WIDEST_CLASSES};
+use hprof_lines::{LeftOut, count_left_out, write_session};
 use hprof_plan::{Plan, RootFound, Statics};
 use hprof_reader::StaticField;
 use hprof_session::Walk;

@@ -21,9 +21,9 @@ build: prove ## proves the programs, and leaves them as bin/heapdbg and bin/heap
 prove: ## proves all crates, JOBS at a time
 	rt all check --jobs $(JOBS)
 
-# The gate. What stands after `rt ci` prints nothing where all is well, and looks at the programs that it left. The first of them
-# becomes bin/heapdbg, and the converter of dumps bin/heapdbg-import.
-test: ## runs the gate: proofs, wrong bodies, tests and checks of the program
+# Proves, tests and checks everything. What stands after `rt ci` prints nothing where all is well, and looks at the programs that
+# it left. The first of them becomes bin/heapdbg, and the converter of dumps bin/heapdbg-import.
+test: ## proves everything, tries wrong bodies, and tests and checks the program
 	@bash scripts/dist.sh begin
 	cmp examples/point.session crates/heapdbg/stdin
 	python3 checks/edits.py fit
@@ -60,8 +60,8 @@ test: ## runs the gate: proofs, wrong bodies, tests and checks of the program
 	@python3 checks/package.py crates/heapdbg/out/heapdbg crates/hprof_import/out/hprof_import
 	@bash scripts/dist.sh passed crates/heapdbg/out/heapdbg crates/hprof_import/out/hprof_import
 
-# Tries the edits that are not in the gate: of all crates, or of those that CRATE names.
-edits: ## tries the wrong bodies that are not in the gate (CRATE=NAME: of one crate)
+# Tries the edits that `make test` doesn't try: of all crates, or of those that CRATE names.
+edits: ## tries the wrong bodies that `make test` doesn't try (CRATE=NAME: of one crate)
 	python3 checks/edits.py try $(CRATE)
 
 bench: build ## measures times
@@ -126,6 +126,6 @@ uninstall: ## removes what was installed
 	rm -f $(BINDIR)/heapdbg $(BINDIR)/heapdbg-import $(BINDIR)/heapdbg-explore $(MANDIR)/heapdbg.1 $(BASHDIR)/heapdbg $(WORDDIR)/explore.words
 	rm -rf $(DOCDIR)
 
-# Packs the same into dist/, with an account of the gate: only the program that passed it at this commit.
-dist: ## packs the program that passed the gate
+# Packs the same into dist/, with an account of `make test`: only the program that passed it at this commit.
+dist: ## packs the program that passed `make test`
 	@bash scripts/dist.sh pack $(VERSION)

@@ -11,6 +11,10 @@ import sys
 import threading
 
 TOP = pathlib.Path(__file__).resolve().parent.parent
+sys.path.append(str(TOP / "checks"))
+
+from servers import memory_of  # noqa: E402
+
 SIZES = (256, 4_096, 20_000, 65_536)
 MANY = 20_000
 NODES_EACH = 256
@@ -61,8 +65,7 @@ class Heap:
 
     def memory(self):
         """Returns the megabytes that the program has taken at most."""
-        status = pathlib.Path(f"/proc/{self.ran.pid}/status").read_text()
-        return int(status.split("VmHWM:")[1].split()[0]) / 1024
+        return memory_of(self.ran, "VmHWM") / (1 << 20)
 
     def close(self):
         """Ends the session."""

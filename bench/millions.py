@@ -12,7 +12,6 @@ answer is wrong."""
 import mmap
 import os
 import pathlib
-import re
 import struct
 import subprocess
 import sys
@@ -20,6 +19,10 @@ import tempfile
 import time
 
 TOP = pathlib.Path(__file__).resolve().parent.parent
+sys.path.append(str(TOP / "checks"))
+
+from servers import memory_of  # noqa: E402
+
 LENGTH, GAP = 5_000, 5
 REGIONS, KEEP = 20_000, 1 << 24
 # The seconds that a line of the hunt should take at most.
@@ -70,7 +73,7 @@ class Dump:
         assert at == size and text[at - 9 : at] == b"\x2c" + bytes(8)
 
     def number(self, at, size):
-        """Returns the number at a place."""
+        """Returns the number at a byte."""
         return int.from_bytes(self.text[at : at + size], "big")
 
     def read_segment(self, at, end):
@@ -191,8 +194,7 @@ class Hunt:
 
     def megabytes(self, name):
         """Returns the memory of the program that the kernel counts by this name."""
-        status = pathlib.Path(f"/proc/{self.ran.pid}/status").read_text()
-        return int(re.search(rf"{name}:\s+(\d+)", status)[1]) // 1024
+        return memory_of(self.ran, name) >> 20
 
     def end(self):
         """Ends the session, and returns the megabytes that it has taken at most."""

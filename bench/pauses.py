@@ -33,6 +33,13 @@ class Pairs:
         self.heap = heap
         self.pins = 0
 
+    def place(self):
+        """Returns the current place, which a pin tells."""
+        self.pins += 1
+        place = int(self.heap.say(b"open -\n", 1)[1].split()[-1])
+        self.heap.say(b"close %d\n" % self.pins, 1)
+        return place
+
     def of(self, *lines):
         """Returns the time of lines that leave the heap as it was, all together, in nanoseconds."""
         lines = b"".join(line + b"\n" for line in lines)
@@ -59,8 +66,8 @@ def acts(heap):
     yield "first `put` into a region beside a pin, and its undoing", pairs.beside_a_pin(b"open -", b"put 0 6 1 7", b"rewind 1") - alone
     heap.say(b"".join(b"clear 0 %d\n" % register for register in range(8)) + b"snap\n", 9)
     yield "`finish` and its undoing", pairs.of(b"finish", b"rewind 1")
-    place = int(heap.say(b"finish\n", 1)[1].split()[-1])
-    yield "`open @P` over a `finish`, and `close`", pairs.beside_a_pin(b"open @%d" % (place - 1))
+    heap.say(b"finish\n", 1)
+    yield "`open @P` over a `finish`, and `close`", pairs.beside_a_pin(b"open @%d" % (pairs.place() - 1))
 
 
 def waits(port):

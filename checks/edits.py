@@ -101,7 +101,7 @@ def owner_of(text, at):
 
 
 def function_at(file, text, at):
-    """Returns the function in which a place of a file stands, if there is one, and whether the place is in its body or its
+    """Returns the function in which a part of a file begins, if there is one, and whether it begins in its body or its
     proof. A method is named by its type or its trait, and another function by its module."""
     if file.startswith("proofs/"):
         parts = pathlib.PurePath(file).parts[1:-1]

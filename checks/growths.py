@@ -67,7 +67,7 @@ WIDE = [
 ]
 
 # What the first of two clients sends to a heap with workers, whose answers are the same whatever these do; and the second. In the
-# second heap each array fills a region, and a segment of its dump, which goes through the pipe in several pages.
+# second heap each array fills a region, and a segment of its dump, which goes through the pipe in several batches.
 BESIDE_WORKERS = {
     2: (
         [b"class Point - x:int y:int", b"new 0 0 0", b"put 0 0 0 7", b"newprim 0 1 long 3"],
@@ -398,15 +398,15 @@ def wrong_saves(program, library, lines):
 
 # ---- how much is asked for
 
-# The most bytes that a session asks for at once, by what the documents say, and by how much a request may be larger. What comes
-# is read by up to 65,536 bytes, also what is read ahead of a served session, to know its first line; a line of 32,768 bytes has
-# at most 8,192 fields, and where one stands takes 6 bytes; parts of a saved dump are joined to 64 KiB; a record of the ring
-# takes at most 32 bytes, and it has room for up to 64 records more than are kept; a step that can be taken again takes at most 72
-# bytes where questions may be answered, as in `save`; the parser of the command line is made up to three times, and asks each time
-# for a list of the options of `explore` and one of those of `serve`, each with room for 32 of 608 bytes. Nothing else is larger
-# than a region's box, which has 1,024 words and room for 256 headers of 16 bytes: not a part of a dump of these heaps, a page of
-# answers, the gray stack (8 bytes for each of 256 cells of a region), or lists of at most 256 regions or 3 sessions.
-READ, FIELDS, PAGE, RECORD, EVENT, BOX = 65_536, 8192 * 6, 65_536, 32, 72, 8192 + 4096
+# The most bytes that a session asks for at once, by what the documents say, and by how much a request may be larger. What comes is
+# read by up to 65,536 bytes, also what is read ahead of a served session, to know its first line; a line of 32,768 bytes has at
+# most 8,192 fields, and where one stands takes 6 bytes; parts of a saved dump are joined to 64 KiB; an undo record takes at most 32
+# bytes, and their ring has room for up to 64 more than are kept; a step that can be taken again takes at most 72 bytes where
+# questions may be answered, as in `save`; the parser of the command line is made up to three times, and asks each time for a list
+# of the options of `explore` and one of those of `serve`, each with room for 32 of 608 bytes. Nothing else is larger than a
+# region's box, which has 1,024 words and room for 256 headers of 16 bytes: not a part of a dump of these heaps, a reply buffer, the
+# gray stack (8 bytes for each of 256 cells of a region), or lists of at most 256 regions or 3 sessions.
+READ, FIELDS, BATCH, UNDO, EVENT, BOX = 65_536, 8192 * 6, 65_536, 32, 72, 8192 + 4096
 OPTIONS = [32 * 608] * 6
 MARGIN = 1.25
 
@@ -450,12 +450,12 @@ def wrong_sizes(program, library, lines):
     given = b"".join(line + b"\n" for line in lines)
     for regions, keep in ((1, 1), (2, 1000)):
         words = ["--regions", str(regions), "--keep", str(keep)]
-        ring, redo = RECORD * (keep + min(keep, 64)), EVENT * keep
+        ring, redo = UNDO * (keep + min(keep, 64)), EVENT * keep
         with tempfile.TemporaryDirectory() as folder:
             saving = [program, "save", "--out", os.path.join(folder, "out.hprof"), *words]
             told = (
                 ("run", sizes_of_run([program, "run", *words], library, given), [READ, FIELDS, *OPTIONS, ring]),
-                ("save", sizes_of_run(saving, library, given), [READ, FIELDS, *OPTIONS, ring, redo, PAGE]),
+                ("save", sizes_of_run(saving, library, given), [READ, FIELDS, *OPTIONS, ring, redo, BATCH]),
                 ("serve", sizes_of_server(program, library, words, [given] * 3), [*[READ, READ, FIELDS] * 3, *OPTIONS, ring]),
             )
         for task, sizes, large in told:

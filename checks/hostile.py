@@ -25,7 +25,7 @@ import sys
 import threading
 import time
 
-from servers import LIMIT, DumpServer, connection
+from servers import LIMIT, DumpServer, connection, memory_of
 
 TOP = pathlib.Path(__file__).resolve().parent.parent
 
@@ -216,7 +216,7 @@ def works(number, port):
     print(json.dumps(honest.wrong), flush=True)
 
 
-def started(*words):
+def client_process(*words):
     """Starts this program as a client."""
     return subprocess.Popen([sys.executable, __file__, "client", *map(str, words)], stdin=subprocess.PIPE, stdout=subprocess.PIPE,
                             stderr=subprocess.DEVNULL, text=True)
@@ -227,12 +227,6 @@ def measured(honest, seconds):
     for child in honest:
         print(seconds, file=child.stdin, flush=True)
     return [json.loads(child.stdout.readline()) for child in honest]
-
-
-def memory(child):
-    """Returns how many bytes of memory the program has."""
-    found = re.search(r"VmRSS:\s+(\d+) kB", pathlib.Path(f"/proc/{child.pid}/status").read_text())
-    return 1024 * int(found[1]) if found else 0
 
 
 def is_free(port):
@@ -256,7 +250,7 @@ def fetched(port):
 @contextlib.contextmanager
 def others(port, dumps, kinds):
     """Has clients of some kinds, each in a process of its own, until it is left. Begins once all have begun."""
-    children = [started(kind.__name__, count, port, dumps) for kind, count in kinds.items()]
+    children = [client_process(kind.__name__, count, port, dumps) for kind, count in kinds.items()]
     try:
         for child in children:
             child.stdout.readline()
@@ -341,7 +335,7 @@ def watched(server, looks):
 
     def watch():
         while not ended.wait(0.1):
-            looks.append(memory(server.run))
+            looks.append(memory_of(server.run) or 0)
 
     thread = threading.Thread(target=watch)
     thread.start()
@@ -365,7 +359,7 @@ def beside(server, honest, kinds, seconds):
 @contextlib.contextmanager
 def clients(port):
     """Has the honest clients, until it is left."""
-    honest = [started("honest", number, port) for number in range(1, HONEST + 1)]
+    honest = [client_process("honest", number, port) for number in range(1, HONEST + 1)]
     try:
         yield honest
     finally:
@@ -376,7 +370,7 @@ def clients(port):
 def tried(server, honest, seconds):
     """Returns what the honest clients measure, by name; the memory of the program beside hostile clients; and when a whole dump came
     after them."""
-    looks = [memory(server.run)]
+    looks = [memory_of(server.run) or 0]
     measured(honest, 0.2)
     found = {"alone": measured(honest, seconds / 10)}
     with watched(server, looks):

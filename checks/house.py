@@ -1,6 +1,6 @@
 #!/usr/bin/env python3
 """Counts what there should be little of, each with its limit: `house.py`. `house.py list` also prints what is counted, and
-`house.py fit`, which the gate runs, only what is above its limit.
+`house.py fit`, which `make test` runs, only what is above its limit.
 
 It goes by the text of the sources alone, so what it lists is to be looked at. Ends with status 1 if a count is above its limit,
 which is what there was when the limit was set: lower it when the count falls."""

@@ -1,5 +1,5 @@
 #!/usr/bin/env python3
-"""Runs the hunts of docs/HUNT.md on the built program and on the model, and compares what comes with what the page says.
+"""Runs the hunts of docs/HUNT.md on the built program and on the model, and compares what comes with what it says.
 
 Usage: checks/hunt.py [PROGRAM ..]
 Each hunt explores a file. In its blocks a line after `> ` is given to `heapdbg explore`; the lines below it are the answer that
@@ -39,7 +39,7 @@ def asked_of(text):
 
 
 def hunts():
-    """Returns for each hunt of the page the name of its file, and the lines to give, each with the lines that it must be answered."""
+    """Returns for each hunt of HUNT the name of its file, and the lines to give, each with the lines that it must be answered."""
     found = []
     for part in (TOP / "docs/HUNT.md").read_text().split("\n## "):
         if asked := asked_of(part):
@@ -52,7 +52,7 @@ WORDS = {b"show": 4, b"path": 3}
 
 
 def rows_of(line, shown):
-    """Returns the answer of the page to a line, without heading and columns, and without the classes that replies leave out."""
+    """Returns the answer of HUNT to a line, without heading and columns, and without the classes that replies leave out."""
     rows = [row.split() if row.startswith(b"  ") else [row] for row in shown]
     if rows and len(rows[0]) > 1 and all(word.isupper() for word in rows[0]):
         del rows[0]
@@ -61,7 +61,7 @@ def rows_of(line, shown):
 
 
 def fits(line, came, wanted):
-    """Returns whether lines are those of the page that answer a line, without its headings and columns."""
+    """Returns whether lines are those of HUNT that answer a line, without its headings and columns."""
     return has_parts(came, rows_of(line, wanted))
 
 
@@ -138,7 +138,7 @@ def differences(programs, name, asked):
 
 
 def main(programs):
-    """Returns the exit status: 0 if every answer is that of the page."""
+    """Returns the exit status: 0 if every answer is that of HUNT."""
     found = []
     for name, asked in hunts():
         found += differences([os.path.abspath(program) for program in programs], name, asked)

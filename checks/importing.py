@@ -23,7 +23,7 @@ sys.path[:0] = [str(TOP / "checks/page"), str(TOP / "checks/model")]
 
 from asking import Page  # noqa: E402
 from ports import free_port  # noqa: E402
-from servers import Server, exchanged  # noqa: E402
+from servers import Server, exchanged, memory_of  # noqa: E402
 
 LIMIT = 120
 SESSIONS = ("leak", "orders", "services", "point")
@@ -454,7 +454,7 @@ def explored(program, importer, dump, folder, *words):
 
 
 def changed(program, importer, dump, folder):
-    """Yields how `explore --hprof` differs from `explore --from` for a dump that is cut, or has one byte changed, at some places."""
+    """Yields how `explore --hprof` differs from `explore --from` for a dump that is cut, or has one byte changed, at some bytes."""
     whole, bad = dump.read_bytes(), folder / "changed.hprof"
     for place in range(0, len(whole), max(len(whole) // 40, 1)):
         bad.write_bytes(whole[:place])
@@ -509,7 +509,7 @@ def refusals(importer, dump, folder):
 
 
 def cut_dumps(importer, dump, folder):
-    """Yields what is wrong with the sessions of a dump that is cut at each of many places: a fault must be told with its place."""
+    """Yields what is wrong with the sessions of a dump that is cut at each of many bytes: a fault must be told with its byte."""
     whole, cut = dump.read_bytes(), folder / "cut.hprof"
     for size in range(40, len(whole), max(len(whole) // 60, 1)):
         cut.write_bytes(whole[:size])
@@ -534,12 +534,6 @@ def large_arrays(program, importer, folder):
             yield f"a dump whose large arrays the area has no room for: {few!r}"
 
 
-def memory_of(process):
-    """Returns the bytes that a process has taken at most, and those that it has."""
-    status = pathlib.Path(f"/proc/{process.pid}/status").read_text()
-    return [1024 * int(re.search(rf"{name}:\s+(\d+)", status)[1]) for name in ("VmHWM", "VmRSS")]
-
-
 def opened_in_little(program, folder):
     """Yields what is wrong with the memory that a dump of many objects takes while it is opened, beside its bytes and its heap."""
     session, dump = folder / "many.session", folder / "many.hprof"
@@ -552,7 +546,7 @@ def opened_in_little(program, folder):
         ran.stdin.write(b"status\n")
         ran.stdin.flush()
         ran.stdout.readline()
-        most, held = memory_of(ran)
+        most, held = memory_of(ran, "VmHWM"), memory_of(ran)
         ran.stdin.close()
         ran.wait(LIMIT)
     beside = (most - held - dump.stat().st_size) / NODES

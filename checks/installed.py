@@ -1,5 +1,5 @@
 #!/usr/bin/env python3
-"""Installs the built programs as a user does, from a copy of this repository, and types there what the pages type:
+"""Installs the built programs as a user does, from a copy of this repository, and types there what the documents type:
 `installed.py PROGRAM IMPORT`.
 
 Looks whether the manual page and the completions know each option that the program's help names, whether heapdbg-explore
@@ -126,12 +126,12 @@ def block(text, first):
 
 
 def answered_as(shell, command, asked):
-    """Yields what the lines that a page types are answered otherwise than it says, by the command that it types."""
+    """Yields what the lines that a document types are answered otherwise than it says, by the command that it types."""
     status, out, error = shell.run(command, b"".join(line + b"\n" for line, _ in asked))
     came = groups(out)
     wrong = [line for (line, wanted), got in zip(asked, came) if not fits(line, got, wanted)]
     if status or error or wrong or len(came) != len(asked):
-        yield f"{command!r}: status {status}, {len(came)} answers, others than the page has to {wrong[:2]}, {error!r:.100}"
+        yield f"{command!r}: status {status}, {len(came)} answers, others than the document has to {wrong[:2]}, {error!r:.100}"
 
 
 def hunted(shell, hunt):
@@ -165,9 +165,9 @@ def recorded(shell, document):
             yield f"RECORD, {serve!r}: {server.ended()}"
 
 
-def viewed(shell, pages):
+def viewed(shell, document):
     """Yields what is wrong with the files that VIEWERS makes."""
-    indented, _ = commands_of(pages)
+    indented, _ = commands_of(document)
     first, example = (shell.folder / f"examples/{name}.session" for name in ("java", "viewer"))
     if len(indented) != 2 or not example.read_text().startswith(first.read_text()):
         yield f"VIEWERS types {indented}, or {example.name} doesn't begin with {first.name}"
@@ -305,7 +305,7 @@ def client(shell, folder):
 
 
 def seen(look, name, shell, folder):
-    """Returns what a look at a page finds. It also finds where the look broke off."""
+    """Returns what a look at a document finds. It also finds where the look broke off."""
     found = []
     try:
         found.extend(look(shell, folder / name))

@@ -1,12 +1,13 @@
 """Heaps of many objects, the same every time, and what each question about them may cost."""
 import contextlib
 import os
-import pathlib
 import random
 import re
 import subprocess
 import threading
 import time
+
+from servers import memory_of
 
 # The most elements of a table, and how many lines and bytes are written and read at a time.
 TABLE, LINES, READ = 2_097_147, 5_000, 1 << 20
@@ -207,8 +208,8 @@ class LargeHeap:
 
     def close(self):
         """Ends the session. Returns the megabytes that the program took at most."""
-        status = pathlib.Path(f"/proc/{self.ran.pid}/status").read_text()
+        most = memory_of(self.ran, "VmHWM")
         self.timer.cancel()
         self.ran.stdin.close()
         self.ran.wait()
-        return int(re.search(r"VmHWM:\s+(\d+)", status)[1]) // 1024
+        return most >> 20

@@ -12,7 +12,7 @@ import sys
 TOP = pathlib.Path(__file__).resolve().parent.parent
 PATH = re.compile(r"[\w.-]+(/[\w.-]+)+/?|[\w-]+\.(antt|rt|py|md|sh)|checks/model")
 ELSEWHERE = ("edits/", "checks/", "examples/", "bench/")
-# The members of a kind: those of an enum, by its file and name, or words, with the lists of the page that have their places.
+# The members of a kind: those of an enum, by its file and name, or words, with the lists of MAP that name where a new one goes.
 HELP = TOP / "checks/sessions/questions/help.expected"
 LINES = "Add a session line"
 KINDS = (

@@ -1,8 +1,8 @@
 #!/usr/bin/env python3
-"""Fails where code makes the answer "no memory" anywhere but in the places that no_memory.txt lists, or one of these is gone.
+"""Fails where code makes the answer "no memory" anywhere but where no_memory.txt lists it, or no longer there.
 
-No contract tells whether memory was really refused, so each place has to follow a refused allocation. A place is told by its
-file, its function, the line that opens its block (the allocation, mostly) and its own line. Run it at the top."""
+No contract tells whether memory was really refused, so each line that makes it has to follow a refused allocation. Such a line is
+told by its file, its function, the line that opens its block (the allocation, mostly) and its own line. Run it at the top."""
 import pathlib
 import re
 import sys
@@ -47,7 +47,7 @@ def function(lines, at):
 
 
 def places(file):
-    """The places of a file where code makes the answer; a pattern, or a variant's declaration, makes none."""
+    """The lines of a file that make the answer; a pattern, or a variant's declaration, makes none."""
     lines = list(without_contracts(without_tests(file.read_text().splitlines())))
     for at, line in enumerate(lines):
         code = line.split("=>", 1)[-1]

@@ -1,8 +1,8 @@
 #!/usr/bin/env python3
 """Packs the built programs by `make dist`, from a copy of this repository with a history of its own: `package.py PROGRAM IMPORT`.
 
-Looks whether what is packed runs and is accounted for, and whether nothing is packed but the program that passed the gate at
-the commit that the files are. Prints a line for each thing that is otherwise, and ends with status 1 if there is one; prints
+Looks whether what is packed runs and is accounted for, and whether nothing is packed but the program that passed `make
+test` at the commit that the files are. Prints a line for each thing that is otherwise, and ends with status 1 if there is one; prints
 nothing where all is well."""
 import hashlib
 import os
@@ -32,12 +32,12 @@ def committed(folder):
 
 
 def dist(folder, *words):
-    """Does a step of the gate."""
+    """Does the first or the last step of `make test`."""
     subprocess.run(["bash", "scripts/dist.sh", *words], cwd=folder, check=True)
 
 
 def passed(folder, programs):
-    """Does what the gate does before and after it looks at the programs."""
+    """Does what `make test` does before and after it looks at the programs."""
     dist(folder, "begin")
     dist(folder, "passed", *programs)
 
@@ -48,7 +48,7 @@ def archives(folder):
 
 
 def packed(folder, programs, commit):
-    """Yields what is wrong with what is packed after the gate."""
+    """Yields what is wrong with what is packed after `make test`."""
     status, said = make(folder, "dist")
     found = archives(folder)
     if status or len(found) != 1:
@@ -77,11 +77,11 @@ def refused(folder, name, wanted):
 
 
 def steps(folder):
-    """Yields what is wrong if the gate's note isn't taken back by its first step, and written by its last."""
+    """Yields what is wrong if the note of `make test` isn't taken back by its first step, and written by its last."""
     rule = re.search(r"^test:.*\n((?:\t.*\n)+)", (folder / "Makefile").read_text(), re.MULTILINE)[1].split("\n")[:-1]
     noting = [at for at, step in enumerate(rule) if "dist.sh" in step]
     if noting != [0, len(rule) - 1] or "dist.sh begin" not in rule[0] or "dist.sh passed" not in rule[-1]:
-        yield f"the gate's first and last steps are {rule[0]!r} and {rule[-1]!r}"
+        yield f"the first and last steps of `make test` are {rule[0]!r} and {rule[-1]!r}"
 
 
 def differences(folder, programs):
@@ -90,12 +90,12 @@ def differences(folder, programs):
     built, importer, page = folder / "bin/heapdbg", folder / "bin/heapdbg-import", folder / "README.md"
     yield from refused(folder, "without git", "git names no commit")
     passed(folder, programs)
-    yield from refused(folder, "after a gate without git", "git names no commit")
+    yield from refused(folder, "tested without git", "git names no commit")
     git(folder, "init", "--quiet")
     commit = committed(folder)
-    yield from refused(folder, "a gate before the first commit", "passed at commit none")
-    (folder / "bin/gate").unlink()
-    yield from refused(folder, "without a gate", "no gate has passed")
+    yield from refused(folder, "tested before the first commit", "passed at commit none")
+    (folder / "bin/tested").unlink()
+    yield from refused(folder, "untested", "nothing has been tested")
     passed(folder, programs)
     yield from packed(folder, programs, commit)
     shutil.copy(OTHER, built)
@@ -110,14 +110,14 @@ def differences(folder, programs):
     yield from refused(folder, "a changed file", "files differ from commit")
     passed(folder, programs)
     committed(folder)
-    yield from refused(folder, "a gate of changed files", "changed, and this is")
+    yield from refused(folder, "tested with changed files", "changed, and this is")
     passed(folder, programs)
     committed(folder)
     yield from refused(folder, "another commit", "and this is")
     dist(folder, "begin")
     committed(folder)
     dist(folder, "passed", *programs)
-    yield from refused(folder, "a commit while the gate runs", "changed, and this is")
+    yield from refused(folder, "a commit while `make test` runs", "changed, and this is")
 
 
 def main(*programs):

@@ -60,7 +60,7 @@ def hunted(heap):
 
 
 def recorded(program, folder):
-    """Yields what is wrong with the record that the Lisp leaves, as it stands and mended."""
+    """Yields what is wrong with the session that the Lisp leaves, as it stands and mended."""
     path, mended = folder / "lisp.session", folder / "examples/lisp.py"
     said = ran(LISP, path)
     lines, operations = re.search(r"has ([\d,]+) lines, of ([\d,]+) operations", said).groups()
@@ -71,7 +71,7 @@ def recorded(program, folder):
     with opened(program, path) as heap:
         yield from hunted(heap)
     if heap.text:
-        yield f"the record has lines that are refused: {heap.text[:200]}"
+        yield f"the recorded session has lines that are refused: {heap.text[:200]}"
     mended.parent.mkdir()
     (folder / "clients").symlink_to(TOP / "clients")
     source = LISP.read_text()

@@ -35,9 +35,9 @@ SAID = {
 
 def unsaid():
     """Yields what documents don't say."""
-    for page, things in SAID.items():
-        text = " ".join((TOP / page).read_text().split())
-        yield from (f"{page} doesn't say {thing}" for thing, words in things.items() if not re.search(words, text))
+    for document, things in SAID.items():
+        text = " ".join((TOP / document).read_text().split())
+        yield from (f"{document} doesn't say {thing}" for thing, words in things.items() if not re.search(words, text))
 
 
 def main():

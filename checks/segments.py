@@ -95,7 +95,7 @@ class Dump:
         elif tag == 0xFF:
             self.roots += body.numbers("Q")
         else:
-            raise ValueError(f"sub-record {tag:x} stands in a wrong place")
+            raise ValueError(f"sub-record {tag:x} stands where none may")
 
     def read_class(self, body):
         """Reads a class: its super and its own fields."""
@@ -112,7 +112,7 @@ class Dump:
         """Reads an object: its references."""
         number, trace = body.numbers("QI")
         if trace != 1 or number <= max(self.objects, default=0) or number % 8:
-            raise ValueError(f"object {number:x} stands in a wrong place")
+            raise ValueError(f"object {number:x} stands where none may")
         if tag == 0x21:
             self.objects[number] = instance(self.classes, body)
         elif tag == 0x22:

@@ -1,6 +1,7 @@
 """A `serve` of the built program, and how a client talks to it."""
 import contextlib
 import pathlib
+import re
 import socket
 import subprocess
 import sys
@@ -10,7 +11,7 @@ TOP = pathlib.Path(__file__).resolve().parent.parent
 sys.path.append(str(TOP / "clients/python"))
 
 from heapdbg import Session  # noqa: E402
-from ports import free_port  # noqa: E402
+from ports import free_port, listened  # noqa: E402
 
 # The seconds that a wait may take.
 LIMIT = 20
@@ -23,6 +24,13 @@ def started(program, words, **how):
     if isinstance(program, list):
         return subprocess.Popen([*program, *words], **pipes | how)
     return subprocess.Popen(["heapdbg", *words], executable=program, **pipes | how)
+
+
+def memory_of(run, kind="VmRSS"):
+    """Returns the bytes of memory that a program has, or those that the kernel counts by another name, as `VmHWM` for the most that it
+    had. Returns None if it has ended."""
+    found = re.search(rf"{kind}:\s+(\d+) kB", pathlib.Path(f"/proc/{run.pid}/status").read_text())
+    return 1024 * int(found[1]) if found else None
 
 
 def connection(port, room=None):
@@ -62,11 +70,10 @@ class Server:
         return connected(self.port, run=self.run)
 
     def waits(self):
-        """Returns once the server listens, as the kernel's table says, so that no session is used up."""
-        wanted, end = f"0100007F:{self.port:04X}", time.monotonic() + LIMIT
+        """Returns once the server listens, and uses up no session."""
+        end = time.monotonic() + LIMIT
         while time.monotonic() < end and self.run.poll() is None:
-            rows = [line.split() for line in pathlib.Path("/proc/net/tcp").read_text().splitlines()[1:]]
-            if any(row[1] == wanted and row[3] == "0A" for row in rows):
+            if self.port in listened():
                 return
             time.sleep(0.01)
         raise TimeoutError(f"nothing listens on port {self.port}")

@@ -5,14 +5,12 @@ Usage: checks/serving.py PROGRAM ..
 Each wait has a limit. Prints a line for each difference and ends with status 1 if there is one. Prints nothing if all is well."""
 import contextlib
 import os
-import pathlib
-import re
 import statistics
 import sys
 import threading
 import time
 
-from servers import LIMIT, Server, all_of
+from servers import LIMIT, Server, all_of, memory_of
 
 # The number of cycles that the marker has to end, and the lines that leave garbage before each: an array in each of 60 regions, so
 # that it takes the sweeper 60 acts to remove what a cycle condemned, and the marker ends the next one before that.
@@ -122,12 +120,6 @@ def replies_beside_idle_workers(program):
     yield f"the median reply beside idle workers, below {1000 * MOST_SECONDS} ms", found, (True, b"", (0, ["quit"], b""))
 
 
-def bytes_of(server):
-    """Returns how many bytes of memory the program has."""
-    status = pathlib.Path(f"/proc/{server.run.pid}/status").read_text()
-    return 1024 * int(re.search(r"VmRSS:\s+(\d+) kB", status)[1])
-
-
 def forgotten_definitions(program):
     """Yields whether the program's memory stays, within `MOST_GROWTH`, while it forgets definitions of classes as fast as more come."""
     lines = b"class Point -\n" * BLOCK
@@ -135,9 +127,9 @@ def forgotten_definitions(program):
     with serving(program, "--roll", "1") as (server, client):
         found = [client.reply(b"class Point -\n")]
         found += [client.replies(lines, BLOCK) == taken for _ in range(3)]
-        before = bytes_of(server)
+        before = memory_of(server.run)
         found += [client.replies(lines, BLOCK) == taken]
-        growth = bytes_of(server) - before
+        growth = memory_of(server.run) - before
         found += growth <= MOST_GROWTH or f"{growth} bytes more", client.ended(), server.ended()
     yield "500,000 definitions more, and as many forgotten", found, [b"ok class 0\n", *[True] * 5, b"", (0, ["quit"], b"")]
 
@@ -145,9 +137,9 @@ def forgotten_definitions(program):
 def growth_by(server, client, lines, count):
     """Sends lines twice. Returns what is answered, each with its number, and by how many bytes the program grows the second time."""
     client.replies(lines, count)
-    before = bytes_of(server)
+    before = memory_of(server.run)
     replies = client.replies(lines, count)
-    return replies, bytes_of(server) - before
+    return replies, memory_of(server.run) - before
 
 
 def long_definitions(program):

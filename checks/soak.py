@@ -3,7 +3,7 @@
 (500,000).
 
 PROGRAM is `bin/heapdbg` if it isn't given; words before its name are a command that runs it, such as `valgrind -q`. The
-clients send lines of every kind at random, questions and `collect` too, a page of lines at a time, and open two pins on one place,
+clients send lines of every kind at random, questions and `collect` too, forty at a time, and open two pins on one place,
 dump both and close them.
 The program has its two workers, which mark and sweep the cycles that clients begin, and `DUMPERS` more clients (2) fetch dumps
 from its second port, one after another. Prints a line for each reply that is not well formed, for a dump that can't be read or
@@ -12,7 +12,7 @@ by `end`; then how much was done, and the memory of the program after the first 
 then, but for `QUIET=1`. Status 1 if anything was wrong. A fetched dump may be empty or cut: the clients' pins may be all that can be open, and
 their rewinds lose others' pins.
 
-The clients pause between pages so that their acts last as long as they work. A heap that is served takes 1,000,000 acts in all,
+The clients pause between these so that their acts last as long as they work. A heap that is served takes 1,000,000 acts in all,
 those of its workers included; for more than 500,000 acts of clients it drops old ones (`--roll 1`).
 No reply says at which turn it was given, so whether they fit one history can't be seen here: `audit.py` looks at that."""
 import contextlib
@@ -26,7 +26,7 @@ import threading
 import time
 
 import segments
-from servers import DumpServer
+from servers import DumpServer, memory_of
 
 TOP = pathlib.Path(__file__).resolve().parent.parent
 sys.path.append(str(TOP / "clients/python"))
@@ -41,8 +41,8 @@ LIMIT = 300
 # How many acts clients may do together beside workers if the heap drops none, and how many they may do.
 SAFE_ACTS = 500_000
 ACTS = int(os.environ.get("ACTS") or SAFE_ACTS)
-# How many lines are in a page, and whether nothing is printed but what is wrong.
-PAGE = 40
+# How many lines a client sends at once, and whether nothing is printed but what is wrong.
+TOGETHER = 40
 QUIET = os.environ.get("QUIET") == "1"
 # The last record of a dump.
 END = b"\x2c" + bytes(8)
@@ -164,10 +164,10 @@ class Client(Session):
         if fault or got != f"ok dump {len(text)}":
             self.wrong.append(f"{line!r} was answered {got!r} after {len(text)} bytes: {fault}")
 
-    def page(self, lot):
-        """Sends a page of lines at once, and reads their replies."""
+    def send_lines(self, lot):
+        """Sends some lines at once, and reads their replies."""
         with self.batch() as batch:
-            for _ in range(PAGE):
+            for _ in range(TOGETHER):
                 batch.send(line_by_lot(lot), lambda words, lines: None)
 
     def pair(self, lot):
@@ -175,7 +175,7 @@ class Client(Session):
         first, place = self.open()
         with contextlib.suppress(Refused):
             second, _ = self.open(place)
-            self.page(lot)
+            self.send_lines(lot)
             try:
                 is_same = self.dump(second) == self.dump(first)
                 self.pairs += 1
@@ -198,7 +198,7 @@ class Client(Session):
                     elif lot.randrange(20) == 0:
                         self.dump()
                     else:
-                        self.page(lot)
+                        self.send_lines(lot)
                 ahead = self.lines * CLIENTS / ACTS * seconds - now
                 if ahead > 0:
                     time.sleep(min(ahead, 3))
@@ -239,28 +239,22 @@ class Dumper:
             self.cut += 1
 
 
-def memory(child):
-    """Returns how many KiB of memory the program has."""
-    found = re.search(r"VmRSS:\s+(\d+) kB", pathlib.Path(f"/proc/{child.pid}/status").read_text())
-    return int(found[1]) if found else 0
-
-
 def total(clients, name):
     """Returns a sum over all clients."""
     return sum(getattr(client, name) for client in clients)
 
 
 def worked(child, clients, dumpers, seconds):
-    """Has all clients work. Returns when the memory of the program was looked at, how much it was and after how many acts."""
+    """Has all clients work. Returns when the memory of the program was looked at, how many KiB it was and after how many acts."""
     threads = [threading.Thread(target=client.works, args=(number, seconds)) for number, client in enumerate(clients)]
     threads += [threading.Thread(target=dumper.fetches, args=(seconds - 1,)) for dumper in dumpers]
     for thread in threads:
         thread.start()
     first = min(60, seconds / 2)
     time.sleep(first)
-    early = (first, memory(child), total(clients, "acts"))
+    early = (first, (memory_of(child) or 0) // 1024, total(clients, "acts"))
     time.sleep(max(0, seconds - first - 0.5))
-    late = (seconds, memory(child), total(clients, "acts"))
+    late = (seconds, (memory_of(child) or 0) // 1024, total(clients, "acts"))
     for thread in threads:
         thread.join()
     return early, late

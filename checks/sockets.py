@@ -23,7 +23,7 @@ sys.path.append(str(TOP / "clients/python"))
 
 from heapdbg import Refused, Session  # noqa: E402
 from ports import free_port  # noqa: E402
-from servers import LIMIT, DumpServer, Server, all_of, exchanged  # noqa: E402
+from servers import LIMIT, DumpServer, Server, all_of, exchanged, started  # noqa: E402
 
 EXAMPLE = (TOP / "examples/point.session").read_bytes()
 STEP = 1
@@ -152,9 +152,7 @@ def taken_port(program):
 @contextlib.contextmanager
 def asking(program, server, **how):
     """Has `ask` run against a server, by default with its input and output in the hands of the caller, and ends it."""
-    pipes = {"stdin": subprocess.PIPE, "stdout": subprocess.PIPE, "stderr": subprocess.PIPE, "bufsize": 0}
-    words = ["heapdbg", "ask", "--port", str(server.port)]
-    child = subprocess.Popen(words, executable=program, **{**pipes, **how})
+    child = started(program, ["ask", "--port", str(server.port)], **{"stdin": subprocess.PIPE, "bufsize": 0} | how)
     try:
         yield child
     finally:

@@ -5,8 +5,6 @@ Usage: checks/staying.py PROGRAM ..
 Each wait has a limit. Prints a line for each difference and ends with status 1 if there is one. Prints nothing if all is well."""
 import contextlib
 import os
-import pathlib
-import re
 import resource
 import select
 import signal
@@ -14,7 +12,7 @@ import socket
 import struct
 import sys
 
-from servers import LIMIT, Server
+from servers import LIMIT, Server, memory_of
 from serving import Client, begins_cycle
 
 # The clients that scan a port, and those that connect and say nothing.
@@ -89,12 +87,6 @@ def reset(client):
     client.answers.close()
     client.socket.setsockopt(socket.SOL_SOCKET, socket.SO_LINGER, struct.pack("ii", 1, 0))
     client.socket.close()
-
-
-def memory_of(server, field="VmRSS"):
-    """Returns the bytes of a kind of memory of a server."""
-    status = pathlib.Path(f"/proc/{server.run.pid}/status").read_text()
-    return 1024 * int(re.search(rf"{field}:\s*(\d+) kB", status)[1])
 
 
 def clients_in_turn(program):
@@ -197,7 +189,7 @@ def many_clients(program):
             for _ in range(count):
                 reply_of(server, REFUSED)
                 told.line()
-            sizes.append(memory_of(server))
+            sizes.append(memory_of(server.run))
         found = sizes[1] - sizes[0] < MOST_GROWTH, stopped(server)
     yield "memory over many clients", found, (True, ENDED)
 
@@ -231,7 +223,7 @@ def idle(program):
     """Yields whether a server with many idle sessions takes little memory."""
     with Server(program, IDLE) as server, contextlib.ExitStack() as clients:
         replies = {clients.enter_context(Client(server)).reply(REFUSED) for _ in range(IDLE)}
-        size = memory_of(server)
+        size = memory_of(server.run)
     yield "idle sessions", (replies, min(size, MOST_MEMORY)), ({REFUSAL}, size)
 
 

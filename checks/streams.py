@@ -137,10 +137,10 @@ def in_parts(program):
                 yield f"{count} lines and {letters} letters by {read}", ran.out, b"ok\n" * count + ending
     for write in (1, 7, 4096):
         ran = program.run(ARRAY + b"dump -\n", OUT_MOST=write)
-        yield f"a dump of several pages by {write}", ran.told(), (0, dump_of_longs(1024), b"")
+        yield f"a dump longer than the reply buffer by {write}", ran.told(), (0, dump_of_longs(1024), b"")
 
 
-def pages(program):
+def few_writes(program):
     """Yields sessions whose answers are out before the next read, in as few writes as that allows."""
     for lines, read, writes in ((3, 1, 3), (3, 10, 3), (3, 15, 2), (3, 30, 1), (3000, 30_000, 2)):
         ran = program.run(b"clear 0 0\n" * lines, IN_MOST=read)
@@ -333,12 +333,12 @@ def failing_files(program):
     yield "a file with just enough room", (*ran.told(), dump), (0, POINT_MADE + b"saved 301\n", b"", POINT_DUMP)
     ran, whole = program.save(MANY_POINTS)
     whole = whole or b""
-    yield "a dump of two pages", (ran.status, len(whole)), (0, 66_412)
-    # The first page has the opening and 15 segments, 61,657 bytes.
+    yield "a dump of two batches", (ran.status, len(whole)), (0, 66_412)
+    # The first batch has the opening and 15 segments, 61,657 bytes.
     for count in (0, 1, 4096, 61_656, 61_657, 61_658, 66_000, 66_411):
         ran, dump = program.save(MANY_POINTS, FILE_LEFT=count)
         told = (ran.status, ran.out.splitlines()[-1:], ran.error, dump)
-        yield f"two pages, {count} bytes", told, (1, [b"failed %d" % count], b"heapdbg: out\n", whole[:count])
+        yield f"two batches, {count} bytes", told, (1, [b"failed %d" % count], b"heapdbg: out\n", whole[:count])
 
 
 def failing_written(program):
@@ -413,13 +413,13 @@ def late_threads(program):
         ran, dump = program.save(MANY_POINTS, LATE=late)
         _, whole = program.save(MANY_POINTS)
         told = (ran.status, ran.out.splitlines()[-1:], ran.error, dump == whole)
-        yield f"two pages, a thread {late} ms late", told, (0, [b"saved 66412"], b"", True)
+        yield f"two batches, a thread {late} ms late", told, (0, [b"saved 66412"], b"", True)
         ran, dump = program.save(MANY_POINTS, LATE=late, FILE_LEFT=66_000)
         told = (ran.status, ran.out.splitlines()[-1:], ran.error, dump == (whole or b"")[:66_000])
-        yield f"two pages that fail, a thread {late} ms late", told, (1, [b"failed 66000"], b"heapdbg: out\n", True)
+        yield f"two batches that fail, a thread {late} ms late", told, (1, [b"failed 66000"], b"heapdbg: out\n", True)
 
 
-CHECKS = (in_parts, pages, interrupted, failing_reads, failing_writes, failing_files, failing_written, failing_saves)
+CHECKS = (in_parts, few_writes, interrupted, failing_reads, failing_writes, failing_files, failing_written, failing_saves)
 CHECKS += (would_block, blocking_saves, blocking_sockets, many_reads, states_left, outlets_that_fail, failing_fetches, late_threads)
 
 

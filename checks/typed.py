@@ -1,4 +1,4 @@
-"""Runs commands as the pages type them: in a folder, by a shell, beside a program that is installed."""
+"""Runs commands as the documents type them: in a folder, by a shell, beside a program that is installed."""
 import contextlib
 import os
 import pathlib
@@ -8,19 +8,19 @@ import subprocess
 import tempfile
 import time
 
-from ports import free_ports
+from ports import free_ports, listened
 
 # The seconds that a command may take.
 LIMIT = 60
-# Ports that the pages name.
+# Ports that the documents name.
 PORTS = ("7000", "7001", "7010", "7020", "7080")
-# How much shorter `sleep` is here than the pages have it.
+# How much shorter `sleep` is here than the documents have it.
 FASTER = 5
 SLEEP = f"#!/bin/sh\nexec /bin/sleep \"$(echo \"$1\" | awk '{{ print $1 / {FASTER} }}')\"\n"
 
 
 class Shell:
-    """A shell in a folder, with the programs of another one at hand. Other ports stand for those of the pages, and `sleep` is
+    """A shell in a folder, with the programs of another one at hand. Other ports stand for those of the documents, and `sleep` is
     shorter."""
 
     def __init__(self, folder, programs):
@@ -59,18 +59,12 @@ class Shell:
             return typed.ended()
 
 
-def listened():
-    """Returns the ports of 127.0.0.1 that are listened on, as the kernel's table says, so that no session is used up."""
-    rows = [row.split() for row in pathlib.Path("/proc/net/tcp").read_text().split("\n")[1:] if row]
-    return {str(int(row[1][9:], 16)) for row in rows if row[1].startswith("0100007F:") and row[3] == "0A"}
-
-
 class Typed:
     """A command that was begun. What it leaves in the background ends with it, and then no longer listens on a port that the command
     names."""
 
     def __init__(self, command, folder, path, lines, ports=()):
-        self.begun = {port for port in ports if port in command} - listened()
+        self.begun = {int(port) for port in ports if port in command} - listened()
         self.out, self.error, given = (tempfile.TemporaryFile() for _ in range(3))
         given.write(lines)
         given.seek(0)
@@ -143,9 +137,9 @@ def manual_examples(page):
     return [line.strip() for line in text[1].split("\n") if line.strip()] if text else []
 
 
-def commands_of(page):
+def commands_of(document):
     """Returns the commands that a document types: its indented lines and its words in backticks that begin so."""
-    text = page.read_text()
+    text = document.read_text()
     indented = re.findall(r"^    ((?:heapdbg|sh|for|cat|python3) .*)$", text, re.MULTILINE)
     quoted = [" ".join(each.split()) for each in re.findall(r"`((?:heapdbg|python3)\s[^`]+)`", text)]
     return indented, quoted

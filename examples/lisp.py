@@ -35,7 +35,7 @@ class LispError(Exception):
 
 
 class Cell:
-    """A cell: an object of Python that the record has, too. A field names a cell or nil, which is None, or is a number."""
+    """A cell: an object of Python that the recorded heap has, too. A field names a cell or nil, which is None, or is a number."""
 
     def __init__(self, record, kind, **fields):
         self.record = record

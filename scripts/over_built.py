@@ -3,7 +3,7 @@
 
 Usage, in a crate's folder: over_built.py [rattle's flags, such as --only FUNCTION]
 
-`rt check` takes only libraries that `rt check` itself or `make prove` built, and proves all below a crate anew where the gate alone
+`rt check` takes only libraries that `rt check` itself or `make prove` built, and proves all below a crate anew where `make test` alone
 has run here. This takes them as they lie in the out/ of each crate, and keeps its own work in the out/ of this folder."""
 import os
 import pathlib

@@ -69,7 +69,7 @@ impl<'a> View<'a> {
     }
 }
 
-/// Puts a number at a place of a text and returns the place behind it.
+/// Puts a number at a position of a text and returns the position behind it.
 macro_rules! put {
     ($text:expr, $at:ident, $number:expr) => {{
         let bytes = $number.to_be_bytes();
@@ -78,7 +78,7 @@ macro_rules! put {
     }};
 }
 
-/// Puts an id of `ids` bytes at a place of a text. Writes eight bytes.
+/// Puts an id of `ids` bytes at a position of a text. Writes eight bytes.
 #[inline(always)]
 fn put_id(text: &mut [u8], at: &mut usize, ids: usize, id: u64) {
     let bytes = id << (64 - 8 * ids);

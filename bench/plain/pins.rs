@@ -120,7 +120,7 @@ impl Pins {
         Ok(self.next - 1)
     }
 
-    /// Has each pin that reads a region in place copy it. The pins share the copy.
+    /// Has each pin that reads a region where it is copy it. The pins share the copy.
     #[cold]
     #[inline(never)]
     pub fn copy(&mut self, number: u8, region: &mut Region) {

@@ -81,7 +81,7 @@ pub struct Region {
     pub head: u16,
     /// The number of the cells' size, 0 to 4.
     pub size: u8,
-    /// The pins, as bits, that read the region in place.
+    /// The pins, as bits, that read the region where it is.
     pub readers: u8,
     pub used: Bits,
     pub live: Bits,

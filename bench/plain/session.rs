@@ -35,7 +35,7 @@ impl Text {
         unsafe { *self.0.get_unchecked(at) }
     }
 
-    /// Returns the eight bytes from a place on, the first one in the lowest byte.
+    /// Returns the eight bytes from a position on, the first one in the lowest byte.
     #[inline(always)]
     fn eight(&self, at: usize) -> u64 {
         debug_assert!(at + 8 <= SIZE);
@@ -43,7 +43,7 @@ impl Text {
         u64::from_le_bytes(unsafe { *self.0.as_ptr().add(at).cast() })
     }
 
-    /// Returns the number at a place and the place behind the byte `end` that follows it, or None if they aren't there.
+    /// Returns the number at a position and the position behind the byte `end` that follows it, or None if they aren't there.
     #[inline(always)]
     fn number(&self, at: usize, end: u8) -> Option<(u64, usize)> {
         let digit = self.eight(at) as u16 ^ u16::from_le_bytes([b'0', end]);
@@ -87,7 +87,7 @@ impl Text {
         value.map_or((0, 0), |value| (value, next + 1))
     }
 
-    /// Returns the numbers of a line from a place on, with a space between them, and the line behind it.
+    /// Returns the numbers of a line from a position on, with a space between them, and the line behind it.
     #[inline(always)]
     fn numbers<const COUNT: usize>(&self, mut at: usize) -> Option<([u64; COUNT], usize)> {
         let mut numbers = [0; COUNT];
@@ -157,7 +157,7 @@ impl Session {
         Ending::Reads
     }
 
-    /// Answers the lines before a place.
+    /// Answers the lines before a position.
     fn answer_lines(&mut self, text: &Text, end: usize) -> Option<Ending> {
         let mut at = 0;
         while at < end {
@@ -180,7 +180,7 @@ impl Session {
         None
     }
 
-    /// Answers a line of the usual kinds, with single spaces, and returns the place behind it, or None if it is another line.
+    /// Answers a line of the usual kinds, with single spaces, and returns the position behind it, or None if it is another line.
     #[inline(always)]
     fn answer_quickly(&mut self, text: &Text, at: usize) -> Option<usize> {
         // The first bytes decide; the others of the keyword are compared with it at once.

@@ -1,4 +1,4 @@
-//! Records of steps, and what they undo.
+//! Undo records of steps, and what they undo.
 use crate::heap::Heap;
 use crate::regions::{Bits, Region, SIZES, Swept, cell_of, region_of, word_of};
 
@@ -18,7 +18,7 @@ pub enum Undo {
     Finish { log: Box<Vec<u32>> },
     Sweep { region: u8, swept: Box<Swept> },
     Reclaim { region: u8, block: Box<Region> },
-    /// The place of a record that was taken.
+    /// Stands where an undo record was taken.
     None,
 }
 
@@ -29,13 +29,13 @@ impl Undo {
     }
 }
 
-/// The records of the last `keep` steps.
+/// The undo records of the last `keep` steps.
 pub struct Trail {
     ring: Vec<Undo>,
     next: usize,
     keep: usize,
     pub place: u64,
-    /// The highest place before the last rewind. Records of steps `keep` below it are lost.
+    /// The highest place before the last rewind. Undo records of steps `keep` below it are lost.
     highest: u64,
 }
 
@@ -44,7 +44,7 @@ impl Trail {
         Trail { ring: Vec::with_capacity(keep), next: 0, keep, place: 0, highest: 0 }
     }
 
-    /// Adds a record, in place of the oldest if there are `keep`.
+    /// Adds an undo record, instead of the oldest if there are `keep`.
     #[inline(always)]
     pub fn add(&mut self, record: Undo) {
         match self.ring.get_mut(self.next) {
@@ -78,7 +78,7 @@ impl Trail {
         std::mem::replace(&mut self.ring[self.next], Undo::None)
     }
 
-    /// Returns the record of the step `ago` steps before the newest.
+    /// Returns the undo record of the step `ago` steps before the newest.
     pub fn record(&self, ago: usize) -> &Undo {
         &self.ring[(self.next + 2 * self.keep - 1 - ago) % self.keep]
     }

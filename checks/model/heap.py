@@ -160,7 +160,7 @@ class State:
                 yield self.id_of(number, cell), region.objects[cell]
 
     def put_object(self, word, thing):
-        """Puts an object in place of the one with this id."""
+        """Puts an object where the one with this id stood."""
         number, cell = self.place_of(word)
         region = self.regions[number]
         self.regions[number] = region._replace(objects={**region.objects, cell: thing})

@@ -149,9 +149,9 @@ def inspected(tab, told):
     yield "the fields", [[name, kind, value.split()[0]] for name, kind, value in fields], wanted
     _, objects, size = told[f"retained @{TO} {LEAKED}"][1].split()
     tab.wait("/[0-9]/.test(document.getElementById('retains').textContent)")
-    yield "what it retains", tab.value("document.getElementById('retains').textContent"), f"retains {objects} objects, {size} bytes"
+    yield "what it dominates", tab.value("document.getElementById('retains').textContent"), f"retains {objects} objects, {size} bytes"
     part = 100 * int(size) / int(told[f"histogram @{TO}"][1].split()[2])
-    yield "the bar of what it retains", round(float(tab.value("document.querySelector('#retains b').style.width")[:-1]), 2), round(part, 2)
+    yield "the bar of what it dominates", round(float(tab.value("document.querySelector('#retains b').style.width")[:-1]), 2), round(part, 2)
     path, named = tab.value("[...document.querySelectorAll('#insp .path')].map((l) => [...l.querySelectorAll('.n')].map((n) => n.innerText))")
     first, *rest = told[f"path @{TO} {LEAKED}"][0]
     yield "the register of the path", path[0], f"register {first[1]} of mutator {first[0]}"

@@ -6,7 +6,7 @@ from clicks import CLASS, CLOSED, FROM, LEAKED, TO, at_place, opened, row
 
 INSPECTED = f"/@{CLOSED:,}/.test(document.getElementById('insp').innerText) && /retains [0-9]/.test(document.getElementById('insp').innerText)"
 
-# Whether what each object of the list retains is known, as far as the list can be seen without scrolling.
+# Whether what each object of the list dominates is known, as far as the list can be seen without scrolling.
 SIZED = "heapdbg.S.sizes.place === heapdbg.S.shown && ![...document.querySelectorAll('#inst tbody tr')].slice(0, 8).some((r) => r.cells[2].textContent === '…')"
 
 

@@ -1,4 +1,4 @@
-"""What objects retain, on the page: the tree of those through which most is reached, and the sizes beside the objects of a class.
+"""What objects dominate, on the page: the tree of those through which most is reached, and the sizes beside the objects of a class.
 
 Each function yields what is done, what is seen, and what has to be."""
 from clicks import CELLS, FROM, NEWEST, STORY, at_place, on_line, opened, row
@@ -122,7 +122,7 @@ def shapes(program):
 
 
 def held(heap, at, number):
-    """Returns what each object of a class retains, in bytes, and what the page has to show for that, or what it shows of an object
+    """Returns what each object of a class dominates, in bytes, and what the page has to show for that, or what it shows of an object
     that no register reaches."""
     found = {}
     for id, *words in heap.rows(f"objects {at} {number}"):
@@ -132,7 +132,7 @@ def held(heap, at, number):
 
 
 def beside(tab, heap):
-    """What the objects of a class retain, beside them: at the newest place and another, and sorted by it."""
+    """What the objects of a class dominate, beside them: at the newest place and another, and sorted by it."""
     tab.click_on(row("classes", CLASS))
     for place in (FROM, NEWEST):
         if place == FROM:
@@ -142,7 +142,7 @@ def beside(tab, heap):
         at_place(tab, place)
         tab.wait(f"({SEEN}).length > 3 && heapdbg.S.sizes.place === {place} && ({SEEN}).every((r) => heapdbg.S.sizes.of.has(r[0]) || r[1] === '·')")
         wanted = held(heap, f"@{place}", NUMBER)
-        yield f"what the objects in sight retain at {place}", [found for found in tab.value(SEEN) if wanted[found[0]] != found[1]], []
+        yield f"what the objects in sight dominate at {place}", [found for found in tab.value(SEEN) if wanted[found[0]] != found[1]], []
     tab.click_on(HEAD)
     order = sorted((0 if size == "·" else int(size.replace(",", "")) for size in wanted.values()), reverse=True)
     for name, expected in (("descending", order), ("ascending", order[::-1])):
@@ -164,7 +164,7 @@ def sparing(program):
             tab.click_on(row("classes", "Node"))
             tab.wait("document.querySelectorAll('#inst tbody tr').length === 200")
             tab.wait(f"({SEEN}).every((r) => heapdbg.S.sizes.of.has(r[0]))")
-            yield "how often it is asked what an object retains", tab.value(f"window.counted <= ({SEEN}).length"), True
+            yield "how often it is asked what an object dominates", tab.value(f"window.counted <= ({SEEN}).length"), True
             before = tab.value("window.counted")
             tab.value("document.getElementById('inst').parentElement.scrollTop = 2000")
             tab.wait(f"heapdbg.S.sizes.of.size > {before} && ({SEEN}).every((r) => heapdbg.S.sizes.of.has(r[0]))")

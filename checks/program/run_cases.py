@@ -15,7 +15,7 @@ def sessions(program):
     many = 100_001
     yield "a million bytes", run(program, ["run"], b"clear 0 0\n" * many), (0, b"ok\n" * many, b"")
     dumped = run(program, ["run"], b"newprim 0 0 long 1024\ndump -\n")
-    yield "a dump of several pages", dumped, (0, dump_of_longs(1024), b"")
+    yield "a dump longer than the reply buffer", dumped, (0, dump_of_longs(1024), b"")
     for words, size in ((["--ids", "4"], 4), (["--keep", "4", "--ids=04"], 4), (["--ids", "8"], 8), (["--ids=8"], 8)):
         ran = run(program, ["run", *words], b"newprim 0 0 long 1\ndump -\n")
         yield " ".join(words), ran, (0, dump_of_longs(1, size), b"")
@@ -91,7 +91,7 @@ def faults(program):
 
 
 def would_block(program):
-    """Yields a session whose output doesn't wait, and is full after a page, as (name, what happened, what must happen)."""
+    """Yields a session whose output doesn't wait, and is full after a few thousand bytes, as (name, what happened, what must happen)."""
     come, output = os.pipe()
     room = fcntl.fcntl(output, fcntl.F_SETPIPE_SZ, os.sysconf("SC_PAGESIZE"))
     os.set_blocking(output, False)

@@ -159,7 +159,7 @@ def saved_to(program, peer, given, *words, **how):
 
 
 def late(path, terminal, got):
-    """Reads a large dump out of a pipe with a name: two pages or so late, and the rest once a line is on a terminal, for which it
+    """Reads a large dump out of a pipe with a name: two batches or so late, and the rest once a line is on a terminal, for which it
     waits at most PATIENCE, if there is one. Adds to a list what is on the terminal then, and how many bytes come out."""
     with open(path, "rb") as pipe:
         count = len(pipe.read(4096))

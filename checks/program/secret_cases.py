@@ -17,7 +17,7 @@ TAKEN = [(WORD, 0o600), (WORD + b"\n", 0o400), (WORD + b"\r\n", 0o600), (b"a" * 
 
 
 def write(path, text, mode):
-    """Makes a file with a text and a mode, in place of one that was there."""
+    """Makes a file with a text and a mode, instead of one that was there."""
     with contextlib.suppress(FileNotFoundError):
         os.remove(path)
     with open(os.open(path, os.O_CREAT | os.O_WRONLY, 0o600), "wb") as file:

@@ -19,9 +19,9 @@ class Known:
         self.name = name
         self.shape = shape
         self.slots: dict[int, Known] = {}
-        # In the order of their writing, so that a program has one record, however its objects hash.
+        # In the order of their writing, so that a program has one session, however its objects hash.
         self.holders: dict[tuple[Known, int], None] = {}
-        # The places of its roots, each with its thread's number.
+        # The spots of its roots, each with its thread's number.
         self.roots: dict[tuple[int, int], None] = {}
 
     def holds(self, slot: int, other: Optional["Known"]) -> None:

@@ -170,10 +170,10 @@ class Recorder:
     def root(self, name: Any, thread: int = 0) -> None:
         """Makes an object a root of the thread until `unroot`, as a global variable is."""
         known, roots = self.mirror.known(name), self.roots(thread)
-        place, times = roots.named.get(known, (-1, 0))
+        spot, times = roots.named.get(known, (-1, 0))
         if not times:
-            place = self.keep(known, roots, ROOTS)
-        roots.named[known] = (place, times + 1)
+            spot = self.keep(known, roots, ROOTS)
+        roots.named[known] = (spot, times + 1)
 
     @operation
     def unroot(self, name: Any, thread: int = 0) -> None:
@@ -181,11 +181,11 @@ class Recorder:
         a root nor in hand."""
         known, roots = self.mirror.known(name), self.roots(thread)
         if known in roots.named:
-            place, times = roots.named.pop(known)
+            spot, times = roots.named.pop(known)
             if times > 1:
-                roots.named[known] = (place, times - 1)
+                roots.named[known] = (spot, times - 1)
             else:
-                roots.take_away(place)
+                roots.take_away(spot)
         else:
             calls = [call for call in roots.calls if known in call]
             if not calls:
@@ -263,16 +263,16 @@ class Recorder:
         """Allocates an object by a line that lacks mutator and register, and has it in hand."""
         roots = self.roots(thread)
         self.mirror.forget_some(self.rooted())
-        place = roots.new_place(LOCALS)
-        register = place if place < FIRST_ELEMENT else roots.work_register()
+        spot = roots.new_spot(LOCALS)
+        register = spot if spot < FIRST_ELEMENT else roots.work_register()
         self.tell(line.format(thread, register))
         known = self.mirror.add(name, shape)
-        if place < FIRST_ELEMENT:
-            roots.note(known, place)
+        if spot < FIRST_ELEMENT:
+            roots.note(known, spot)
         else:
             roots.works(register, known)
-            roots.put(known, place, register)
-        roots.calls[-1][known] = place
+            roots.put(known, spot, register)
+        roots.calls[-1][known] = spot
         return known
 
     def write_slot(self, known: Known, field: Any, value: Any, thread: int) -> None:
@@ -289,11 +289,11 @@ class Recorder:
         known.holds(slot.number, other)
 
     def keep(self, known: Known, roots: Roots, registers: tuple[int, ...]) -> int:
-        """Makes an object a root at a new place, and returns that."""
+        """Makes an object a root at a new spot, and returns that."""
         register = roots.get(known)
-        place = roots.new_place(registers)
-        roots.put(known, place, register)
-        return place
+        spot = roots.new_spot(registers)
+        roots.put(known, spot, register)
+        return spot
 
     def begin_call(self, thread: int) -> None:
         """Begins a call."""
@@ -306,8 +306,8 @@ class Recorder:
         roots = self.roots(thread)
         for result in results:
             self.hand_over(self.mirror.known(result), roots)
-        for place in roots.calls.pop().values():
-            roots.take_away(place)
+        for spot in roots.calls.pop().values():
+            roots.take_away(spot)
 
     def hand_over(self, known: Known, roots: Roots) -> None:
         """Has the caller of a call have an object in hand."""

@@ -11,7 +11,7 @@ from .mirror import Known, way_to
 ROOTS, LOCALS, WORK, BLOCK, SPINE = (0, 1), (2, 3), (4, 5), 6, 7
 # How many elements the array of all blocks has, and a block.
 BLOCKS, BLOCK_SIZE = 64, 256
-# A place of a root that is a register is its number; one in the shadow stack is its element, counted from here.
+# A spot of a root that is a register is its number; one in the shadow stack is its element, counted from here.
 FIRST_ELEMENT = 8
 
 
@@ -30,15 +30,15 @@ class Roots:
         # The block that BLOCK names, and how many there are.
         self.block = -1
         self.blocks = 0
-        # What each running call has in hand, with its place; that of the program comes first.
+        # What each running call has in hand, with its spot; that of the program comes first.
         self.calls: list[dict[Known, int]] = [{}]
-        # What `root` made a root, with its place, and how often.
+        # What `root` made a root, with its spot, and how often.
         self.named: dict[Known, tuple[int, int]] = {}
 
-    # ---- places
+    # ---- spots
 
-    def new_place(self, registers: Iterable[int]) -> int:
-        """Returns a free place: one of these registers, or else an element of the shadow stack."""
+    def new_spot(self, registers: Iterable[int]) -> int:
+        """Returns a free spot: one of these registers, or else an element of the shadow stack."""
         for register in registers:
             if register not in self.at:
                 return register
@@ -49,32 +49,32 @@ class Roots:
         self.next += 1
         return self.next - 1
 
-    def put(self, known: Known, place: int, register: int) -> None:
+    def put(self, known: Known, spot: int, register: int) -> None:
         """Makes a root of an object that a register names."""
-        if place < FIRST_ELEMENT:
-            self.tell(f"move {self.m} {place} {self.m} {register}")
+        if spot < FIRST_ELEMENT:
+            self.tell(f"move {self.m} {spot} {self.m} {register}")
         else:
-            self.tell(f"store {self.m} {BLOCK} {self.element(place)} {register}")
-        self.note(known, place)
+            self.tell(f"store {self.m} {BLOCK} {self.element(spot)} {register}")
+        self.note(known, spot)
 
-    def note(self, known: Known, place: int) -> None:
-        """Notes that a place names an object."""
-        self.at[place] = known
-        known.roots[self.m, place] = None
+    def note(self, known: Known, spot: int) -> None:
+        """Notes that a spot names an object."""
+        self.at[spot] = known
+        known.roots[self.m, spot] = None
 
-    def take_away(self, place: int) -> None:
-        """Makes a place null."""
-        known = self.at.pop(place)
-        del known.roots[self.m, place]
-        if place < FIRST_ELEMENT:
-            self.tell(f"clear {self.m} {place}")
+    def take_away(self, spot: int) -> None:
+        """Makes a spot null."""
+        known = self.at.pop(spot)
+        del known.roots[self.m, spot]
+        if spot < FIRST_ELEMENT:
+            self.tell(f"clear {self.m} {spot}")
         else:
-            self.tell(f"store {self.m} {BLOCK} {self.element(place)} {self.null()}")
-            heapq.heappush(self.free, place)
+            self.tell(f"store {self.m} {BLOCK} {self.element(spot)} {self.null()}")
+            heapq.heappush(self.free, spot)
 
-    def element(self, place: int) -> int:
-        """Returns the index of a place in its block, once BLOCK names that."""
-        block, index = divmod(place - FIRST_ELEMENT, BLOCK_SIZE)
+    def element(self, spot: int) -> int:
+        """Returns the index of a spot in its block, once BLOCK names that."""
+        block, index = divmod(spot - FIRST_ELEMENT, BLOCK_SIZE)
         while self.blocks <= block:
             self.add_block()
         if self.block != block:
@@ -116,9 +116,9 @@ class Roots:
         for register, other in self.work.items():
             if other is known:
                 return register
-        for m, place in known.roots:
-            if m == self.m and place < FIRST_ELEMENT:
-                return place
+        for m, spot in known.roots:
+            if m == self.m and spot < FIRST_ELEMENT:
+                return spot
         return None
 
     def get(self, known: Known, avoid: Optional[int] = None) -> int:
@@ -140,13 +140,13 @@ class Roots:
 
     def load_root(self, known: Known, work: int) -> int:
         """Has a register of WORK name an object that only the shadow stack names, or another mutator. Returns the register."""
-        m, place = next((each for each in known.roots if each[0] == self.m), next(iter(known.roots)))
+        m, spot = next((each for each in known.roots if each[0] == self.m), next(iter(known.roots)))
         if m == self.m:
-            self.tell(f"load {self.m} {work} {BLOCK} {self.element(place)}")
-        elif place < FIRST_ELEMENT:
-            self.tell(f"move {self.m} {work} {m} {place}")
+            self.tell(f"load {self.m} {work} {BLOCK} {self.element(spot)}")
+        elif spot < FIRST_ELEMENT:
+            self.tell(f"move {self.m} {work} {m} {spot}")
         else:
-            block, index = divmod(place - FIRST_ELEMENT, BLOCK_SIZE)
+            block, index = divmod(spot - FIRST_ELEMENT, BLOCK_SIZE)
             self.tell(f"move {self.m} {work} {m} {SPINE}")
             self.tell(f"load {self.m} {work} {work} {block}")
             self.tell(f"load {self.m} {work} {work} {index}")

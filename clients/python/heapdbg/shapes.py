@@ -57,7 +57,7 @@ def kind_of(value: Any) -> str:
 
 def number_of(kind: str, value: Any) -> int:
     """Returns the number that stands for a value of a kind: the bits of a float, and negative numbers by their two's complement.
-    Raises OverflowError if it has no place there."""
+    Raises OverflowError if it doesn't fit there."""
     if kind in FLOATS:
         to_bytes, from_bytes = FLOATS[kind]
         return struct.unpack(from_bytes, struct.pack(to_bytes, value))[0]

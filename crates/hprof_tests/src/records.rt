@@ -1,6 +1,8 @@
 //! Records worked out by hand from the format.
-use super::*;
 use heap_class::{IdSize, Kind};
+use hprof_reader::{
+    Fault, Instance, ObjectArray, PrimArray, Root, SubRecord, header_at, record_at, sub_record_at,
+};
 use std::test::*;
 
 // A dump of a JVM in small, with identifiers of 4 bytes.

@@ -1,7 +1,9 @@
 //! A dump that was worked out by hand from the format, and lines as docs/SESSIONS.md has them.
-use super::*;
 use heap_class::IdSize;
 use hprof_reader::{Fault, Record, Root, SubRecord};
+use hprof_session::{
+    Item, PLACES, Survey, Walk, item_at, push_fetch, push_keep, push_place, walk_over,
+};
 use session_lines::Lines;
 use std::alloc::Global;
 use std::test::*;

@@ -1,5 +1,5 @@
 //! Tables that grow, and one that is fitted.
-use super::*;
+use id_table::IdTable;
 use std::test::*;
 
 #[test]

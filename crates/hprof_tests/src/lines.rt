@@ -1,7 +1,7 @@
 //! Lines as docs/SESSIONS.md has them.
-use super::*;
 use heap_class::{Field, Fields, Kind, Name};
 use heap_step::Event;
+use session_lines::{Lines, push_event};
 use std::alloc::{AllocError, Global};
 use std::test::*;
 

@@ -404,9 +404,9 @@ def wrong_saves(program, library, lines):
 # bytes, and their ring has room for up to 64 more than are kept; a step that can be taken again takes at most 72 bytes where
 # questions may be answered, as in `save`; the parser of the command line is made up to three times, and asks each time for a list
 # of the options of `explore` and one of those of `serve`, each with room for 32 of 608 bytes. Nothing else is larger than a
-# region's box, which has 1,024 words and room for 256 headers of 16 bytes: not a part of a dump of these heaps, a reply buffer, the
+# region's box, which has 1,024 words and room for 256 headers of 8 bytes: not a part of a dump of these heaps, a reply buffer, the
 # gray stack (8 bytes for each of 256 cells of a region), or lists of at most 256 regions or 3 sessions.
-READ, FIELDS, BATCH, UNDO, EVENT, BOX = 65_536, 8192 * 6, 65_536, 32, 72, 8192 + 4096
+READ, FIELDS, BATCH, UNDO, EVENT, BOX = 65_536, 8192 * 6, 65_536, 32, 72, 8192 + 2048
 OPTIONS = [32 * 608] * 6
 MARGIN = 1.25
 

@@ -135,7 +135,7 @@ fn has_class(classes: &FirstClasses<'_>, kind: ObjKind) -> bool
     ensures { IsTrue result → IsClassThere classes.now kind }
 {
     match kind {
-        ObjKind::Instance(class) | ObjKind::Array(class) => class < classes.len(),
+        ObjKind::Instance(class) | ObjKind::Array(class) => (class as u64) < classes.len(),
         ObjKind::Prim(_) => true,
     }
 }

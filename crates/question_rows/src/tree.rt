@@ -209,7 +209,7 @@ fn push_slot_name(
     match kind {
         ObjKind::Instance(class) => {
             push_words(text, b" ")?;
-            push_words(text, slot_name(classes, class, slot))
+            push_words(text, slot_name(classes, class as u64, slot))
         }
         _ => push_number(text, slot),
     }

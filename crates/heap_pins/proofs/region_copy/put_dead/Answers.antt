@@ -2,7 +2,7 @@ use Rattle.std.proofs.Common.{sym, ◌∙◌, refl}
 use Rattle.std.proofs.lemmas.List.{at_drop_all}
 use Rattle.heap_pins.specs.KeptCopies.{with_dead}
 use Rattle.heap_pins.proofs.AddedCopies.{next_dead_is_put}
-use Rattle.heap_pins.proofs.pin.put_dead.Goals as goal
+use Rattle.heap_pins.proofs.region_copy.put_dead.Goals as goal
 
 pub put-requires-clause-within : goal.put-requires-clause-within
 put-requires-clause-within c = (next_dead_is_put c.args.dead.now c.loop-cell.cell-index c.loop-cell-item.result c.loop-cell.copy _ c.loop-cell-test.true c.loop-cell-item.is c.loop-cell.invariant.fit refl).within

@@ -227,7 +227,7 @@ COUNTS = {
     unshared_functions: 19,
     twin_lemmas: 7,
     shared_names: 99,
-    names_of_one_word: 127,
+    names_of_one_word: 0,
     modules_without_head: 0,
     words_with_two_meanings: 0,
     large_crates: 9,

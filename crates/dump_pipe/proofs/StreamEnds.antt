@@ -32,11 +32,11 @@ dump_messages_are_not_empty : (parts : List Piece) (e : SourceEnd) (items : List
 dump_messages_are_not_empty [] e items h = absurd cc
 dump_messages_are_not_empty (p ∷ ps) e items h = absurd cc
 
-fits : (parts given : List Piece) (out : List ℕ) (e e2 : SourceEnd) (failures failures' : ℕ) (r : Pumped) → parts ≡ given → e ≡ e2 → (e2 ≡ Ended.Whole → ends given ≡ true) → AnswersDrain parts out e failures failures' r → FitsPump given out (Some e2) failures failures' r
-fits parts given out e e2 failures failures' (Pumped.Done n) same is whole h = (h.0 ∙ ap joined same, whole (sym is ∙ h.1), ap Some (sym is ∙ h.1), h.2)
-fits parts given out e e2 failures failures' (Pumped.OutletFailed n) same is whole h = h
-fits parts given out e e2 failures failures' (Pumped.Lost cause n) same is whole h = (h.0 ∙ ap joined same, ap Some (sym is ∙ h.1), h.2)
-fits parts given out e e2 failures failures' (Pumped.Cancelled n) same is whole h = (h.0 ∙ ap joined same, ap Some (sym is ∙ h.1), h.2)
+pump_fits_what_was_given : (parts given : List Piece) (out : List ℕ) (e e2 : SourceEnd) (failures failures' : ℕ) (r : Pumped) → parts ≡ given → e ≡ e2 → (e2 ≡ Ended.Whole → ends given ≡ true) → AnswersDrain parts out e failures failures' r → FitsPump given out (Some e2) failures failures' r
+pump_fits_what_was_given parts given out e e2 failures failures' (Pumped.Done n) same is whole h = (h.0 ∙ ap joined same, whole (sym is ∙ h.1), ap Some (sym is ∙ h.1), h.2)
+pump_fits_what_was_given parts given out e e2 failures failures' (Pumped.OutletFailed n) same is whole h = h
+pump_fits_what_was_given parts given out e e2 failures failures' (Pumped.Lost cause n) same is whole h = (h.0 ∙ ap joined same, ap Some (sym is ∙ h.1), h.2)
+pump_fits_what_was_given parts given out e e2 failures failures' (Pumped.Cancelled n) same is whole h = (h.0 ∙ ap joined same, ap Some (sym is ∙ h.1), h.2)
 
 fed_and_drained_is_pumped : (a b : Supply) (w w' : Outgoing) (v1 v2 : EndSide) (e : SourceEnd) (r : Pumped) (items : List Message) → IsFed a b v1 e → IsDrained [] v2 w w' r → list_of v2 ++ items ≡ list_of v1 → IsPumped a b w w' r
 fed_and_drained_is_pumped a b w w' v1 v2 e r items f d order =
@@ -48,7 +48,7 @@ fed_and_drained_is_pumped a b w w' v1 v2 e r items f d order =
       grows = d.grows;
       begins = subst (λ ps. IsPrefix d.out (joined ps)) same.0 d.begins;
       counted = d.counted;
-      fits = subst (λ x. FitsPump f.given d.out x w.failures w'.failures r) (sym f.ended) (fits d.parts f.given d.out d.ended e w.failures w'.failures r same.0 same.1 f.whole d.answers);
+      fits = subst (λ x. FitsPump f.given d.out x w.failures w'.failures r) (sym f.ended) (pump_fits_what_was_given d.parts f.given d.out d.ended e w.failures w'.failures r same.0 same.1 f.whole d.answers);
     }
 
 pub fed_and_drained_is_streamed : (a b : Supply) (w w' : Outgoing) (v1 v2 v3 : EndSide) (fed : Option SourceEnd) (r : Pumped) (items : List Message) → MayFeed a b v1 fed → IsDrained [] v2 w w' r → v3 ≡ both_of v1 v2 → HasOrder v3 items → IsPumped a b w w' r

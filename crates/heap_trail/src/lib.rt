@@ -275,7 +275,7 @@ impl Machine {
         })
     }
 
-    /// Takes a step and keeps its record, in place of the oldest if `keep` are there. Fails with ChronicleFull at place 2^62,
+    /// Takes a step and keeps its record, instead of the oldest if `keep` are there. Fails with ChronicleFull at place 2^62,
     /// or as the event does; nothing has changed then. A pin is lost if memory for what the step overwrote can't be
     /// allocated.
     ///

@@ -99,7 +99,7 @@ impl IdTable {
         self.set_size(count + count / 4 + 1)
     }
 
-    // Makes this many slots in place of those that there are.
+    // Makes this many slots instead of those that there are.
     fn set_size(&mut self, size: usize) -> Result<(), AllocError>
         ensures { self.new ≡ self.old }
     {

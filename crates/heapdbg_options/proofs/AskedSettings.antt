@@ -440,7 +440,8 @@ own_task_is_legal : (first : Option Origin) (page : Option Text) (task : Task) �
 own_task_is_legal None page task e = cc
 own_task_is_legal (Some origin) page task e = own_page_task_is_legal origin page task e
 
--- what the task of `explore` has, and the same task after the session of two dumps, is what its task with a second dump or without has
+-- what the task of `explore` has, and the same task after the session of two dumps, is what its task with a second dump or without
+-- has
 task_of_two_has : (P : Task → Type 0) (t task : Task) → ((page : Option ℕ) → t ≡ Explore Dump page → P (Explore Dumps page)) → second_task true t ≡ Some task → P task
 task_of_two_has P (Explore Dump page) task two e = let same : Explore Dumps page ≡ task = cc in subst P same (two page refl)
 task_of_two_has P (Explore Fresh page) task two e = cc

@@ -159,9 +159,9 @@ begin_and_wait_seats_join id other x y s h at ne there =
       seats = λ seat v e. ⊎_elim
           (λ (t : (seat ≡ other) × (Spent ≡ v)). subst (SitsAtStart h.beginner h.beginner w seat) t.1 tt)
           (λ (t : (seat ≢ other) × (get_elem? met seat ≡ some v)). ⊎_elim
-              (λ (k : (seat ≡ id) × (m ≡ v)). subst (λ (z : ℕ × StartSide). SitsAtStart h.beginner h.beginner w z.0 z.1) (λ i. (sym k.0 i, k.1 i)) (mine.0, mine.0, mine.1, theirs.1))
-              (λ (k : (seat ≢ id) × (get_elem? s.views seat ≡ some v)). free_seat_sits_on h.beginner h.waiter h.beginner w seat v (λ z. k.0 (z ∙ sym mine.0)) (λ z. t.0 (z ∙ sym theirs.0)) (h.seats seat v k.1))
-              (at_set s.views id seat m v t.1))
+          (λ (k : (seat ≡ id) × (m ≡ v)). subst (λ (z : ℕ × StartSide). SitsAtStart h.beginner h.beginner w z.0 z.1) (λ i. (sym k.0 i, k.1 i)) (mine.0, mine.0, mine.1, theirs.1))
+          (λ (k : (seat ≢ id) × (get_elem? s.views seat ≡ some v)). free_seat_sits_on h.beginner h.waiter h.beginner w seat v (λ z. k.0 (z ∙ sym mine.0)) (λ z. t.0 (z ∙ sym theirs.0)) (h.seats seat v k.1))
+          (at_set s.views id seat m v t.1))
           (at_set met other seat Spent v e);
     }
 
@@ -186,9 +186,9 @@ whole_seat_parts id s h at =
       word = h.word;
       seats = λ seat v e. ⊎_elim
           (λ (t : get_elem? left seat ≡ some v). ⊎_elim
-              (λ (k : (seat ≡ id) × (Begins None ≡ v)). subst (λ (z : ℕ × StartSide). SitsAtStart h.beginner (length left) w z.0 z.1) (λ i. (sym k.0 i, k.1 i)) (mine.0, mine.2))
-              (λ (k : (seat ≢ id) × (get_elem? s.views seat ≡ some v)). free_seat_sits_on h.beginner h.waiter (length left) w seat v (λ z. k.0 (z ∙ sym mine.0)) (λ z. k.0 (z ∙ sym mine.1)) (h.seats seat v k.1))
-              (at_set s.views id seat (Begins None) v t))
+          (λ (k : (seat ≡ id) × (Begins None ≡ v)). subst (λ (z : ℕ × StartSide). SitsAtStart h.beginner (length left) w z.0 z.1) (λ i. (sym k.0 i, k.1 i)) (mine.0, mine.2))
+          (λ (k : (seat ≢ id) × (get_elem? s.views seat ≡ some v)). free_seat_sits_on h.beginner h.waiter (length left) w seat v (λ z. k.0 (z ∙ sym mine.0)) (λ z. k.0 (z ∙ sym mine.1)) (h.seats seat v k.1))
+          (at_set s.views id seat (Begins None) v t))
           (λ (t : (seat ≡ length left) × (Waits None ≡ v)). subst (SitsAtStart h.beginner (length left) w seat) t.1 (t.0, mine.3))
           (seat_of_longer_list left (Waits None) v seat e);
     }

@@ -1,5 +1,5 @@
 -- Both ends of a pipe together.
-use Rattle.std.proofs.Common.{◌≡◌, ◌≢◌, true, List, [], ◌∷◌, ◌++◌, Option, Some, None, refl, ap, sym, ◌∙◌, subst}
+use Rattle.std.proofs.Common.{◌≡◌, true, List, [], ◌∷◌, ◌++◌, Some, refl, ap, sym, ◌∙◌, subst}
 use mathlib.Core.List.{IsPrefix}
 use Rattle.std.specs.Prelude.{ℕ}
 use Rattle.hprof_text.specs.declared.Piece.{Piece}
@@ -15,7 +15,6 @@ use Rattle.dump_pipe.specs.declared.end_side.EndSide.TheVariants.{Sends, Gets}
 use Rattle.dump_pipe.specs.Pipes.{dump, list_of, both_of, HasOrder}
 use Rattle.dump_pipe.specs.Feeds.{IsFed}
 use Rattle.dump_pipe.specs.Drains.{AnswersDrain, IsDrained}
-use Rattle.dump_pipe.specs.Streams.{MayFeed}
 
 -- a whole dump that begins another is that dump
 dump_beginning_another_is_same : (parts given : List Piece) (e e2 : SourceEnd) (items : List Message) → dump parts e ++ items ≡ dump given e2 → (parts ≡ given) × (e ≡ e2)

@@ -1,5 +1,5 @@
 -- The rule of a start's word, the steps of its seats, and their models in contracts.
-use Rattle.std.specs.Prelude.{◌≡◌, ◌≢◌, ℕ, ◌≤◌, ◌==◌, Bool, true, false, not, List, [], ◌∷◌, length, slice_index, Option, Some, None, IfSome}
+use Rattle.std.specs.Prelude.{◌≡◌, ◌≢◌, ℕ, ◌≤◌, ◌==◌, Bool, true, false, not, List, length, slice_index, Option, Some, None, IfSome}
 use mathlib.Core.Option.{some}
 use lib.ListN.{get_elem?}
 use Rattle.atomic_table.specs.Seated.{TableId}
@@ -24,14 +24,14 @@ told_to (Both x y) = x
 told_to Spent = None
 
 -- the word at which a seat is told this
-abbrev pub word_of : Bool → ℕ
-word_of true = 1
-word_of false = 2
+abbrev pub start_word : Bool → ℕ
+start_word true = 1
+start_word false = 2
 
 -- the word fits what a seat was told that alone sets it to `own`
 abbrev pub FitsTold : ℕ → ℕ → Option Bool → Type 0
 FitsTold own w None = w ≢ own
-FitsTold own w (Some b) = w ≡ word_of b
+FitsTold own w (Some b) = w ≡ start_word b
 
 -- the rule for one seat, if these seats begin and wait, and the word is w
 abbrev pub SitsAtStart : ℕ → ℕ → ℕ → ℕ → StartSide → Type 0
@@ -74,12 +74,12 @@ Agree (Some b) None = b ≡ true
 Agree (Some b) (Some c) = b ≡ c
 
 -- both seats as one agree; other seats are free
-abbrev pub IsAgreed : StartSide → Type 0
-IsAgreed (Both x y) = Agree x y
-IsAgreed (Begins x) = Unit {0}
-IsAgreed (Waits y) = Unit {0}
-IsAgreed Spent = Unit {0}
+abbrev pub AreAgreed : StartSide → Type 0
+AreAgreed (Both x y) = Agree x y
+AreAgreed (Begins x) = Unit {0}
+AreAgreed (Waits y) = Unit {0}
+AreAgreed Spent = Unit {0}
 
 -- the step by which both seats compare
 abbrev pub WereCompared : Step (Unit {0}) → Seated → ℕ → Seated → Type 0
-WereCompared step m found n = IsAgreed m.0
+WereCompared step m found n = AreAgreed m.0

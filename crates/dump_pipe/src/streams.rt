@@ -21,7 +21,7 @@ use std::sync::Wait;
 use std::thread::{Threads, join_mut};
 
 /// Puts out the parts of a source as `pump` does, while a second thread asks the source for the next ones, and counts their
-/// bytes. If a pipe can't be allocated, or the thread hasn't begun in time, the caller's thread does both. Waits for the source
+/// bytes. If a pipe or a start can't be allocated, or the thread hasn't begun in time, the caller's thread does both. Waits for the source
 /// and for the outlet; both threads have ended when it returns. The sum has room for the bytes of a dump.
 pub fn stream_parts<S: Source + Send, O: Outlet, R: Threads + Wait + Sync>(
     rt: &R,
@@ -49,7 +49,7 @@ pub fn stream_parts<S: Source + Send, O: Outlet, R: Threads + Wait + Sync>(
     pumped
 }
 
-// Feeds in a new thread, and drains in the caller's. Returns None if no start can be allocated, or if the thread was given up, and
+// Feeds in a new thread, and drains in the caller's. Returns None if a start can't be allocated, or if the thread was given up;
 // then neither did anything.
 fn pass_parts<S: Source + Send, O: Outlet, R: Threads + Wait + Sync>(
     rt: &R,
@@ -73,12 +73,11 @@ fn pass_parts<S: Source + Send, O: Outlet, R: Threads + Wait + Sync>(
     ensures kept { S.kept source.new ≡ S.kept source.old }
     ensures counted { counter.new ≡ after_bytes counter.old (drained_bytes result) }
 {
-    let made = Start::new(alloc).ok()?;
     let NewStart {
         start,
         mut beginner,
         mut waiter,
-    } = made;
+    } = Start::new(alloc).ok()?;
     let (sender, receiver) = (&ends.sender, &ends.receiver);
     let (one, other) = (&mut known.one, &mut known.other);
     let mut feeder = || -> Option<SourceEnd>

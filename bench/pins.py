@@ -39,7 +39,8 @@ def main(program):
     points = ["class Point - x:int y:int", *["new 0 0 0"] * 65536]
     print(f"dump - of 65,536 Points: {cost(program, points, 'dump -')}")
     print(f"dump 1 of the same: {cost(program, [*points, 'open -'], 'dump 1')}")
-    print(f"the first put into a region beside a pin: {cost(program, [*HEAP, 'open -'], 'put 0 0 1 1') - cost(program, HEAP, 'put 0 0 1 1')}")
+    first = [cost(program, [*HEAP, *["open -"] * pins], *FROZEN) for pins in (0, 1, 4)]
+    print(f"the first put into a region beside a pin: {first[1] - first[0]} more, beside 4: {first[2] - first[0]}")
 
 
 if __name__ == "__main__":

@@ -404,9 +404,9 @@ def wrong_saves(program, library, lines):
 # bytes, and their ring has room for up to 64 more than are kept; a step that can be taken again takes at most 72 bytes where
 # questions may be answered, as in `save`; the parser of the command line is made up to three times, and asks each time for a list
 # of the options of `explore` and one of those of `serve`, each with room for 32 of 608 bytes. Nothing else is larger than a
-# region's box, which has 1,024 words and room for 256 headers of 16 bytes: not a part of a dump of these heaps, a reply buffer, the
+# region's box, which has 1,024 words and room for 256 headers of 8 bytes: not a part of a dump of these heaps, a reply buffer, the
 # gray stack (8 bytes for each of 256 cells of a region), or lists of at most 256 regions or 3 sessions.
-READ, FIELDS, BATCH, UNDO, EVENT, BOX = 65_536, 8192 * 6, 65_536, 32, 72, 8192 + 4096
+READ, FIELDS, BATCH, UNDO, EVENT, BOX = 65_536, 8192 * 6, 65_536, 32, 72, 8192 + 2048
 OPTIONS = [32 * 608] * 6
 MARGIN = 1.25
 
@@ -541,11 +541,12 @@ def wrong_undoing(program, library, pinned):
 
 def wrong_sweep(program, library):
     """Yields what goes otherwise than it may where a sweep finds no dead object beside a pin: it asks for no memory, and a pin on the state
-    before it for as much as one on the state after it. The first write to the region then makes three copies."""
+    before it for as much as one on the state after it. The first write to the region then makes one copy for all three pins: its box,
+    and the count of who holds it."""
     with Counted(program, library) as session:
         yield from taken_steps(session, words_of(LIVE), (2,))
         *cycle, after, before, put = [session.reply(line)[1] for line in words_of(SWEPT)]
-        if any(cycle) or after != before or put != 3:
+        if any(cycle) or after != before or put != 2:
             yield f"a sweep that finds no dead object: {cycle}, {after}, {before} and {put} requests"
 
 

@@ -89,13 +89,16 @@ pub enum IdSize {
 /// The number of a class, in order of definition from 0.
 pub type ClassNo = u64;
 
+/// The number of a class in the kind of an object: two bytes, of which its header has room for no more.
+pub type KindClass = u16;
+
 /// The kind of an object.
 #[derive(Clone, Copy, PartialEq, Eq, Debug)]
 pub enum ObjKind {
     /// An instance of this class.
-    Instance(ClassNo),
+    Instance(KindClass),
     /// An array of references, of this array class.
-    Array(ClassNo),
+    Array(KindClass),
     /// An array of values of this kind, which isn't Object.
     Prim(Kind),
 }

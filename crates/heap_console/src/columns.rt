@@ -170,8 +170,8 @@ fn add_lines<'a>(
     add_rows(alloc, text, rows.as_slice(), names)
 }
 
-// Returns the text of a row whose words are shown in columns, or None if the line is no row, or a row of words of `help`, which begin
-// with `#`.
+// Returns the text of a row whose words are shown in columns, or None if the line is no row, or a row of words of `help`, which
+// begin with `#`.
 fn aligned_row(line: &[u8]) -> Option<&[u8]> {
     let row = line.strip_prefix(b"row ")?;
     if row.starts_with(b"# ") {

@@ -61,7 +61,8 @@ impl IdClasses {
         })
     }
 
-    /// Returns the name of the class of the object with this id, in the older state if `is_older` says so, or None if it isn't known.
+    /// Returns the name of the class of the object with this id, in the older state if `is_older` says so, or None if it isn't
+    /// known.
     pub(crate) fn name_of(&self, id: u64, is_older: bool) -> Option<&[u8]> {
         let index = self.ids.as_slice().binary_search(&id).ok()?;
         let NameSpan { begin, end } = *self.names_in(is_older).get(index)?;
@@ -135,7 +136,7 @@ fn has_class(classes: &FirstClasses<'_>, kind: ObjKind) -> bool
     ensures { IsTrue result → IsClassThere classes.now kind }
 {
     match kind {
-        ObjKind::Instance(class) | ObjKind::Array(class) => class < classes.len(),
+        ObjKind::Instance(class) | ObjKind::Array(class) => (class as u64) < classes.len(),
         ObjKind::Prim(_) => true,
     }
 }

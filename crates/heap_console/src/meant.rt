@@ -9,7 +9,7 @@ use session_grammar::by_word;
 use session_grammar::words::Words;
 use session_text::Take;
 
-// Puts the line that a person means in place of the one that a read gave to the front of a room, if it is another and there is
+// Puts the line that a person means instead of the one that a read gave to the front of a room, if it is another and there is
 // room for it.
 pub(crate) fn give_meant(room: &mut [u8], took: Take) -> Take
     requires { IsLineGiven room.old took }

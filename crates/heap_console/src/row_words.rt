@@ -20,7 +20,7 @@ pub(crate) struct ShownLines {
 struct ClassColumn {
     id: usize,
     class: usize,
-    // What stands there in place of a class that isn't known.
+    // What stands there instead of a class that isn't known.
     blank: &'static [u8],
 }
 

@@ -28,8 +28,8 @@ pub trait Folder {
     fn open(&mut self, path: &[u8]) -> Option<Self::Lines>
         ensures { acts.opens self.old path.now (option_map Self.Lines.seen result) self.new };
 
-    /// Makes the file of a path, and from then on puts into it what the session reads and writes. Returns false, and changes nothing,
-    /// if there is one already, or if it can't be made.
+    /// Makes the file of a path, and from then on puts into it what the session reads and writes. Returns false, and changes
+    /// nothing, if there is one already, or if it can't be made.
     fn begin_log(&mut self, path: &[u8]) -> bool
         ensures { acts.logs self.old path.now result self.new };
 

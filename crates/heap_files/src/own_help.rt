@@ -16,9 +16,9 @@ use session_grammar::words::{Words, is_word};
 use session_text::LineAnswer;
 use std::alloc::{AllocError, Global};
 
-/// Returns the answer of a line that asks for help in a session whose lines also run the lines of files and log, or None if the line
-/// doesn't ask for help or its answer is the same as where they only write files. The answer of `help` itself is NoMemory if an
-/// allocation fails.
+/// Returns the answer of a line that asks for help in a session whose lines also run the lines of files and log, or None if the
+/// line doesn't ask for help or its answer is the same as where they only write files. The answer of `help` itself is NoMemory if
+/// an allocation fails.
 pub(crate) fn own_help(alloc: Global, line: &[u8]) -> Option<LineAnswer>
     ensures { IsFileHelp (own_help_of line.now) result }
 {

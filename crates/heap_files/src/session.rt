@@ -7,8 +7,8 @@ use crate::folder::Folder;
 use session_text::{Ended, Inlet, Outlet, serve};
 use std::alloc::Global;
 
-/// Serves a session as `serve_asking` does, whose lines `write [AT] PATH` and `draw [AT] PATH` write files, and change nothing else.
-/// `source PATH` runs the lines of a file, and `log PATH` begins a log. All its dumps have the same time in their headers.
+/// Serves a session as `serve_asking` does, whose lines `write [AT] PATH` and `draw [AT] PATH` write files, and change nothing
+/// else. `source PATH` runs the lines of a file, and `log PATH` begins a log. All its dumps have the same time in their headers.
 pub fn serve_filing<I: Inlet, O: Outlet, F: Folder>(
     alloc: Global,
     reader: &mut I,

@@ -6,7 +6,7 @@ use Rattle.heap_history.specs.Blocks.{BlockState}
 use Rattle.heap_history.specs.Kept.{kept_entries}
 use Rattle.heap_history.specs.Limits.{block_limit}
 
--- what was done, in order; whether old entries are dropped in place of refusing new ones; and how many more it has room for
+-- what was done, in order; whether old entries are dropped instead of refusing new ones; and how many more it has room for
 pub record ChronicleState : Type 0 where
   pub entries : List Entry
   pub rolls : Bool

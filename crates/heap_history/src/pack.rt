@@ -96,7 +96,7 @@ pub enum Form {
     Nothing,
 }
 
-/// An entry by its numbers or by the place of its long pack, or in place of one that isn't kept.
+/// An entry by its numbers or by the place of its long pack, or instead of one that isn't kept.
 #[derive(Clone, Copy)]
 pub struct Pack {
     /// The deed's first number, or the place of the long pack.

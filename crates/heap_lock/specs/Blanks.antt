@@ -12,7 +12,7 @@ use Rattle.heap_lock.specs.HomeTables.{SeatTable, Ledger, table_of}
 use Rattle.heap_lock.specs.LockStates.{SeatModel, table_at, IsSeatModel, IsSeatTable}
 use Rattle.heap_lock.specs.Ledgers.{HasCalls}
 
--- a heap that isn't open yet: its settings, whether old entries are dropped in place of refusing new ones, the table of each seat
+-- a heap that isn't open yet: its settings, whether old entries are dropped instead of refusing new ones, the table of each seat
 -- and that of the ledger, and its seats
 pub record Maker : Type 0 where
   pub config : HeapSettings

@@ -29,7 +29,7 @@ pub record SeatModel : Type 0 where
   pub role : Role
   pub share : List (ℕ × Entry)
 
--- what lies under the lock: the machine, all entries, whether old ones are dropped in place of refusing new ones, and all calls,
+-- what lies under the lock: the machine, all entries, whether old ones are dropped instead of refusing new ones, and all calls,
 -- of which no code stores the list
 pub record LockState : Type 0 where
   pub machine : Machine

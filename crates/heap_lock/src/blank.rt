@@ -136,7 +136,7 @@ impl Blank {
         })
     }
 
-    /// Sets whether the chronicle, once 1,000,000 entries are kept, drops the oldest ones in place of refusing new ones. It
+    /// Sets whether the chronicle, once 1,000,000 entries are kept, drops the oldest ones instead of refusing new ones. It
     /// refuses new ones if this isn't called. Takes no memory.
     pub fn set_rolls(&mut self, rolls: bool)
         ensures { self.new ≡ record self.old { rolls = rolls } }

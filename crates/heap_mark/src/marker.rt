@@ -400,7 +400,7 @@ impl Marker {
     {
         let at = regions.place(parent);
         match regions.kind(at) {
-            ObjKind::Instance(class) => self.shade_fields(regions, at, classes.slots(class)),
+            ObjKind::Instance(class) => self.shade_fields(regions, at, classes.slots(class as u64)),
             ObjKind::Array(_) => self.shade_elements(regions, at),
             ObjKind::Prim(_) => {}
         }

@@ -134,8 +134,8 @@ answered_taken m n e a is = at (nat_le last_place m.trail.place) refl is
     at false h is = of (applied e m.trail.current) (omega (arith, leb-false last_place m.trail.place h)) refl is
 
 -- what an answered step did, also if it lost pins
-pub taken : (m n : Machine) (e : Event) (a : Answer) → MayReply m (Step e) n (Answered a) → IsTaken m e n a
-taken m n e a r =
+pub answered_step_is_taken : (m n : Machine) (e : Event) (a : Answer) → MayReply m (Step e) n (Answered a) → IsTaken m e n a
+answered_step_is_taken m n e a r =
     let k = without_mark m n e a r in
     let s = answered_taken m k.0 e a k.1 in
     record { below = s.below; place = ap (λ t. t.place) k.2 ∙ s.place; state = ap (λ t. t.current) k.2 ∙ s.state; answer = s.answer }
@@ -143,10 +143,10 @@ taken m n e a r =
 -- ---- a step that the state allows
 
 -- it is refused for a shortage alone
-pub short : (m : Machine) (x : Event) (e : Refusal) → refusal_of x m.trail.current ≡ None → MayFail m (Step x) m e → IsShortage e
+pub failure_of_accepted_step_is_shortage : (m : Machine) (x : Event) (e : Refusal) → refusal_of x m.trail.current ≡ None → MayFail m (Step x) m e → IsShortage e
 unfolding acted after_result after_step_at applied applied_unless
-short m x e free (inr h) = inl h.1
-short m x e free (inl h) = at (nat_le last_place m.trail.place) h
+failure_of_accepted_step_is_shortage m x e free (inr h) = inl h.1
+failure_of_accepted_step_is_shortage m x e free (inl h) = at (nat_le last_place m.trail.place) h
   where
     of : (o : Option Refusal) → o ≡ None → after_result x m (applied_unless o x m.trail.current) ≡ (m, Refused e) → IsShortage e
     of None is h = let clash : Answered (answer_of x m.trail.current (state_after x m.trail.current)) ≡ Refused e = ap (λ (p : Machine × Reply). p.1) h in absurd (cc clash)
@@ -156,9 +156,9 @@ short m x e free (inl h) = at (nat_le last_place m.trail.place) h
     at true h = let same : Refused ChronicleFull ≡ Refused e = ap (λ (p : Machine × Reply). p.1) h in inr (cc same)
     at false h = of (refusal_of x m.trail.current) free h
 
-stopped : (D : Refusal → Type 0) (b : Bool) (m : Machine) (x : Event) (e : Refusal) → next_step b m.trail.current ≡ Some x → refusal_of x m.trail.current ≡ None → MayFail m (Step x) m e ⊎ D e → MayStop D b m e
-stopped D b m x e next free (inl h) = (x, next, inl (h, short m x e free h))
-stopped D b m x e next free (inr h) = (x, next, inr h)
+failure_stops_cycle : (D : Refusal → Type 0) (b : Bool) (m : Machine) (x : Event) (e : Refusal) → next_step b m.trail.current ≡ Some x → refusal_of x m.trail.current ≡ None → MayFail m (Step x) m e ⊎ D e → MayStop D b m e
+failure_stops_cycle D b m x e next free (inl h) = (x, next, inl (h, failure_of_accepted_step_is_shortage m x e free h))
+failure_stops_cycle D b m x e next free (inr h) = (x, next, inr h)
 
 -- ---- sweeps
 
@@ -178,7 +178,7 @@ unfolding refusal_of sweep_refusal first_refusal
 sweep_allowed w r h = ap (λ (b : Bool). cond (not b) (Some (NothingToSweep r)) None) (first_waits w.regions r h)
 
 pub sweep_stopped : (D : Refusal → Type 0) (b : Bool) (m : Machine) (r : ℕ) (e : Refusal) → waiting_region m.trail.current ≡ Some r → MayFail m (Step (Sweep r)) m e ⊎ D e → MayStop D b m e
-sweep_stopped D b m r e h f = stopped D b m (Sweep r) e (next_sweep b m.trail.current r h) (sweep_allowed m.trail.current r h) f
+sweep_stopped D b m r e h f = failure_stops_cycle D b m (Sweep r) e (next_sweep b m.trail.current r h) (sweep_allowed m.trail.current r h) f
 
 -- what the sweep of a region says
 swept_answer : (w v : HeapState) (r : ℕ) → IsLegal w → (condemned_of (answer_of (Sweep r) w v) ≡ 0) × (swept_of (answer_of (Sweep r) w v) ≤ cell_limit)
@@ -192,7 +192,7 @@ swept_state w r h = (first_swept (pool_of w) r h, refl)
 pub one_swept : (m n : Machine) (r : ℕ) (a : Answer) → IsLegal m.trail.current → waiting_region m.trail.current ≡ Some r → MayReply m (Step (Sweep r)) n (Answered a) → IsSwept m ((Sweep r, a) ∷ []) (swept_of a) n
 one_swept m n r a legal h reply =
     let w = m.trail.current in
-    let t = taken m n (Sweep r) a reply in
+    let t = answered_step_is_taken m n (Sweep r) a reply in
     let told = swept_answer w (state_after (Sweep r) w) r legal in
     let none : condemned_of a ≡ 0 = ap (λ (x : Answer). condemned_of x) t.answer ∙ told.0 in
     let state = swept_state w r h in
@@ -265,9 +265,9 @@ Marks w e =
     ⊎ ((e ≡ Drain) × (is_marking w.phase ≡ true) × (w.drained < length w.log))
     ⊎ ((e ≡ Finish) × (is_marking w.phase ≡ true) × (length w.gray ≤ 0) × (length w.log ≤ w.drained))
 
-which : (w : HeapState) → Marks w (next_mark w)
+next_mark_marks : (w : HeapState) → Marks w (next_mark w)
 unfolding next_mark
-which w = phase (is_marking w.phase) refl
+next_mark_marks w = phase (is_marking w.phase) refl
   where
     log : is_marking w.phase ≡ true → length w.gray ≤ 0 → (b : Bool) → nat_lt w.drained (length w.log) ≡ b → Marks w (cond b Drain Finish)
     log m g true h = inr (inr (inl (refl, m, ltb-true w.drained (length w.log) h)))
@@ -296,12 +296,12 @@ marks_allowed w e none (inr (inr (inr h))) =
     ap (λ (x : Event). refusal_of x w) h.0 ∙ finish_free (marking_of w) h.1 (omega (arith, gray, log)) (sym (ap (λ (l : List ℕ). slice_get l 0) none))
 
 pub mark_allowed : (w : HeapState) (x : Event) → x ≡ next_mark w → pending_regions w.regions ≡ [] → refusal_of x w ≡ None
-mark_allowed w x is none = marks_allowed w x none (subst (Marks w) (sym is) (which w))
+mark_allowed w x is none = marks_allowed w x none (subst (Marks w) (sym is) (next_mark_marks w))
 
 pub mark_stopped : (D : Refusal → Type 0) (m : Machine) (x : Event) (e : Refusal) → x ≡ next_mark m.trail.current → pending_regions m.trail.current.regions ≡ [] → MayFail m (Step x) m e ⊎ D e → MayStop D false m e
 mark_stopped D m x e is none f =
     let w = m.trail.current in
-    stopped D false m x e (next_marks w none ∙ ap (λ (y : Event). Some y) (sym is)) (mark_allowed w x is none) f
+    failure_stops_cycle D false m x e (next_marks w none ∙ ap (λ (y : Event). Some y) (sym is)) (mark_allowed w x is none) f
 
 -- a step of the marker before its finish leaves which regions wait, and condemns and removes nothing
 abbrev Leaves : HeapState → Event → Type 0
@@ -327,11 +327,11 @@ marks_leave w e (inr (inl h)) f = subst (Leaves w) (sym h.0) (mark_leaves w)
 marks_leave w e (inr (inr (inl h))) f = subst (Leaves w) (sym h.0) (drain_leaves w)
 marks_leave w e (inr (inr (inr h))) f = absurd (true≢false (sym (ap ends_cycle h.0) ∙ f))
 
-finishes : (w : HeapState) (e : Event) → Marks w e → ends_cycle e ≡ true → e ≡ Finish
-finishes w e (inl h) f = absurd (true≢false (sym f ∙ ap ends_cycle h.0))
-finishes w e (inr (inl h)) f = absurd (true≢false (sym f ∙ ap ends_cycle h.0))
-finishes w e (inr (inr (inl h))) f = absurd (true≢false (sym f ∙ ap ends_cycle h.0))
-finishes w e (inr (inr (inr h))) f = h.0
+mark_that_ends_cycle_is_finish : (w : HeapState) (e : Event) → Marks w e → ends_cycle e ≡ true → e ≡ Finish
+mark_that_ends_cycle_is_finish w e (inl h) f = absurd (true≢false (sym f ∙ ap ends_cycle h.0))
+mark_that_ends_cycle_is_finish w e (inr (inl h)) f = absurd (true≢false (sym f ∙ ap ends_cycle h.0))
+mark_that_ends_cycle_is_finish w e (inr (inr (inl h))) f = absurd (true≢false (sym f ∙ ap ends_cycle h.0))
+mark_that_ends_cycle_is_finish w e (inr (inr (inr h))) f = h.0
 
 finish_ends : (w : HeapState) → ((state_after Finish w).phase ≡ Idle) × (swept_of (answer_of Finish w (state_after Finish w)) ≡ 0)
 unfolding state_after answer_of after_finish finished
@@ -341,8 +341,8 @@ pub marked_on : (m n : Machine) (e : Event) (a : Answer) (b : Bool) → e ≡ ne
 marked_on m n e a b is none reply told going =
     let w = m.trail.current in
     let f : ends_cycle e ≡ false = sym told ∙ going in
-    let t = taken m n e a reply in
-    let kept = marks_leave w e (subst (Marks w) (sym is) (which w)) f in
+    let t = answered_step_is_taken m n e a reply in
+    let kept = marks_leave w e (subst (Marks w) (sym is) (next_mark_marks w)) f in
     let one = one_leads false m n e a (next_marks w none ∙ ap (λ (y : Event). Some y) (sym is)) reply in (
       subst (λ (b : Bool). StepsLead false m ((e, a) ∷ []) (b || false) n 0 0) f
           (subst (λ (k : ℕ). StepsLead false m ((e, a) ∷ []) (ends_cycle e || false) n k 0) (ap (λ (x : Answer). condemned_of x) t.answer ∙ kept.1)
@@ -356,8 +356,8 @@ pub marked_last : (m n : Machine) (e : Event) (a : Answer) (b : Bool) (count : �
 marked_last m n e a b count is none reply told last same =
     let w = m.trail.current in
     let f : ends_cycle e ≡ true = sym told ∙ last in
-    let finish = finishes w e (subst (Marks w) (sym is) (which w)) f in
-    let t = taken m n e a reply in
+    let finish = mark_that_ends_cycle_is_finish w e (subst (Marks w) (sym is) (next_mark_marks w)) f in
+    let t = answered_step_is_taken m n e a reply in
     let ends = subst (λ (x : Event). ((state_after x w).phase ≡ Idle) × (swept_of (answer_of x w (state_after x w)) ≡ 0)) (sym finish) (finish_ends w) in
     let one = one_leads false m n e a (next_marks w none ∙ ap (λ (y : Event). Some y) (sym is)) reply in
     subst (λ (k : ℕ). MovesOn m ((e, a) ∷ []) (Some k) n) (sym same) (
@@ -415,8 +415,8 @@ same_steps b c d m k n l (x ∷ xs) [] same h j hn jn =
 same_steps b c d m k n l (x ∷ xs) (y ∷ ys) same h j hn jn =
     let both : Some x.0 ≡ Some y.0 = sym h.0 ∙ ap (next_step b) same ∙ j.0 in
     let event : x.0 ≡ y.0 = cc both in
-    let t = taken m h.1.0 x.0 x.1 h.1.1 in
-    let u = taken k j.1.0 y.0 y.1 j.1.1 in
+    let t = answered_step_is_taken m h.1.0 x.0 x.1 h.1.1 in
+    let u = answered_step_is_taken k j.1.0 y.0 y.1 j.1.1 in
     let answer : x.1 ≡ y.1 = t.answer ∙ ap₂ (λ (e : Event) (w : HeapState). answer_of e w (state_after e w)) event same ∙ sym u.answer in
     let state : now h.1.0 ≡ now j.1.0 = t.state ∙ ap₂ state_after event same ∙ sym u.state in
     let others = subst (λ (e : Event). AreNext (ends_cycle e || b) h.1.0 xs c n) event h.1.2 in

@@ -79,8 +79,8 @@ answered_is_made : (m n : Machine) (e : Event) (a : Answer) → ComesOfStep m e 
 answered_is_made m n e a (inl h) = h.2
 answered_is_made m n e a (inr h) = absurd (cc (h.1))
 
-pub made : (m n : Machine) (e : Event) (a : Answer) → MayReply m (Step e) n (Answered a) → IsMade m e n
-made m n e a h = answered_is_made m n e a (step_comes m n e (Answered a) h.0 h.2)
+pub answered_step_is_made : (m n : Machine) (e : Event) (a : Answer) → MayReply m (Step e) n (Answered a) → IsMade m e n
+answered_step_is_made m n e a h = answered_is_made m n e a (step_comes m n e (Answered a) h.0 h.2)
 
 -- a rewind of retained steps
 pub record IsUndone (m : Machine) (count : ℕ) (n : Machine) : Type 0 where
@@ -119,8 +119,8 @@ placed_is_undone : (m n : Machine) (count p : ℕ) → ComesOfRewind m count n (
 placed_is_undone m n count p (inl h) = h.2
 placed_is_undone m n count p (inr h) = absurd (cc (h.1))
 
-pub undone : (m n : Machine) (count p : ℕ) → LocalActs m (Rewind count) (Place p) n → IsUndone m count n
-undone m n count p h = placed_is_undone m n count p (rewind_comes m n count (Place p) h.0 h.2)
+pub local_rewind_is_undone : (m n : Machine) (count p : ℕ) → LocalActs m (Rewind count) (Place p) n → IsUndone m count n
+local_rewind_is_undone m n count p h = placed_is_undone m n count p (rewind_comes m n count (Place p) h.0 h.2)
 
 stays_legal : (m n : Machine) (a : Action) (r : Reply) → LocalActs m a r n → IsTrail m.keep m.trail → IsTrail n.keep n.trail
 unfolding machine_after
@@ -257,7 +257,7 @@ pub again_up : (n : ℕ) (m : Machine) (r : Redo) (k : Machine) (s : Redo) (last
 again_up zero m r k s last l h =
     (subst (λ (x : Redo). LeadsTo k x last) (sym h.1) (subst (λ (x : Machine). LeadsTo x r last) (sym h.0) l), h.1 ∙ ap (λ (x : ℕ). record r { ahead = x }) (let e : r.ahead ≡ r.ahead - 0 = omega arith in e))
 again_up (suc n) m r k s last l h =
-    let one = next_up m h.2 r last r.ahead h.0 refl l h.3 (made m h.2 h.0 h.1 h.4) in
+    let one = next_up m h.2 r last r.ahead h.0 refl l h.3 (answered_step_is_made m h.2 h.0 h.1 h.4) in
     let more = again_up n h.2 (retaken r) k s last one h.5 in
     (more.0, more.1 ∙ ap (λ (x : ℕ). record r { ahead = x }) (let e : r.ahead - 1 - n ≡ r.ahead - suc n = omega arith in e))
 

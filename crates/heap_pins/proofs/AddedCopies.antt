@@ -10,18 +10,19 @@ use Rattle.heap_region.specs.Layout.{words_of}
 use Rattle.heap_region.specs.RegionCopies.{Frozen, frozen, frozen_words, frozen_with, region_frozen}
 use Rattle.heap_region.proofs.ChangedLookups.{same_or_not}
 use Rattle.heap_region.proofs.ShownRegions.{object_of_used}
-use Rattle.heap_world.specs.State.{HeapState}
+use Rattle.heap_step.specs.declared.Undo.{Undo}
 use Rattle.heap_step.specs.declared.Undo.TheVariants.{Reclaim, Sweep}
-use Rattle.heap_pins.specs.KeptCopies.{bytes_with, has_copy, kept_at, with_byte, with_copy, with_dead}
+use Rattle.heap_pins.specs.KeptCopies.{bytes_with, has_copy, kept_at, touched, with_byte, with_copy, with_dead}
 use Rattle.heap_pins.specs.KeptRegions.{IsRevivedTable, KeptContents, blank}
-use Rattle.heap_pins.specs.Pin.{PinContents, cell_state, copy_or_now, region_seen, state_kept, state_seen, states_of_region}
+use Rattle.heap_pins.specs.Pin.{PinContents, cell_state, copy_or_now, region_seen, state_kept, state_seen}
 use Rattle.heap_pins.specs.Shows.{AreFit}
-use Rattle.heap_pins.specs.States.{AreOf, AreRestored, AreSettled, cell_of, cell_states, states_by, storage_states}
+use Rattle.heap_pins.specs.States.{AreOf, AreRestored, AreSettled, cell_of, cell_states, storage_states}
 use Rattle.heap_pins.specs.Walk.{dead_state, states_before}
 use Rattle.heap_pins.specs.WalkedPins.{IsRevived, without_copy}
-use Rattle.heap_pins.proofs.CellStates.{bytes_are_states, copied_cell_has_its_byte, free_cell_is_kept}
+use Rattle.heap_pins.proofs.CellStates.{copied_cell_has_its_byte, free_cell_is_kept}
 use Rattle.heap_pins.proofs.CopiedRegions.{is_not_none, not_some_copy_is_none}
 use Rattle.heap_pins.proofs.OpenedPins.{length_of_blank, zero_in_blank}
+use Rattle.heap_pins.proofs.RecordCases.{by_region, equal_options_name_same_region, record_that_touches_no_region, sweep_touches_its_region}
 
 -- ---- a copy is put
 
@@ -75,20 +76,6 @@ frozen_used regions r some = go (used_at regions r) some
     go (Some u) some = search
 
 -- ---- the states of a region without a copy
-
--- the states that a pin shows beside the heap as it is
-pub free_states_are_kept : (p : PinContents) (regions : List Region) (r : ℕ) (bytes : List ℕ) → has_copy r p ≡ false → AreOf (state_seen p regions) r 256 bytes → bytes ≡ states_of_region (states_by p (cell_states regions)) r
-free_states_are_kept p regions r bytes free a = bytes_are_states (states_by p (cell_states regions)) r bytes (record {
-  count = a.count;
-  each = λ c lt. a.each c lt ∙ free_cell_is_kept p regions (cell_of r c) (not_some_copy_is_none (slice_index_or p.copies r None) free);
-})
-
--- those that it shows if the cells have these states
-pub settled_states_are_kept : (p : PinContents) (g : ObjRef → ℕ) (r : ℕ) (bytes old states : List ℕ) → AreOf g r 256 old → AreSettled p.ended bytes old states → bytes ≡ slice_index_or p.cells r [] → states ≡ states_of_region (states_by p g) r
-settled_states_are_kept p g r bytes old states a s e = bytes_are_states (states_by p g) r states (record {
-  count = s.count ∙ a.count;
-  each = λ c lt. s.each c lt ∙ (λ i. state_kept p.ended (slice_index_or (e i) c 0) (a.each c lt i));
-})
 
 -- the states of all cells, where the region has none
 pub settled_states_are_seen : (p : PinContents) (regions : List Region) (r : ℕ) (bytes old states : List ℕ) → has_copy r p ≡ false → AreOf (cell_states regions) r 256 old → AreSettled p.ended bytes old states → bytes ≡ slice_index_or p.cells r [] → AreOf (state_seen p regions) r 256 states
@@ -151,19 +138,37 @@ drop_here [] i x lt e = absurd (omega (arith, lt))
 drop_here (y ∷ xs) zero x lt e = ap (λ z. z ∷ xs) (sym e)
 drop_here (y ∷ xs) (suc i) x lt e = drop_here xs i x (omega (arith, lt)) e ∙ ap (λ n. x ∷ drop n (y ∷ xs)) (let z : suc (i + 1) ≡ suc i + 1 = omega arith in z)
 
-pub restored_states_are_before : (w : HeapState) (r : ℕ) (dead : List (ℕ × Object)) (g : ObjRef → ℕ) (old states : List ℕ) → AreOf g r 256 old → AreRestored dead old states → AreOf (states_before (Sweep r dead) g) r 256 states
+-- the states after a step that touched the region, made those before it by the step's record
+pub swept_states_are_restored : (left : Undo) (region : ℕ) (dead : List (ℕ × Object)) → left ≡ Sweep region dead → (f : ObjRef → ℕ) (r : ℕ) (old states : List ℕ) → touched left ≡ Some r → AreOf f r 256 old → AreRestored dead old states → AreOf (states_before left f) r 256 states
 unfolding states_before
-restored_states_are_before w r dead g old states a s = record {
-  count = s.count ∙ a.count;
-  each = λ c lt. s.each c ∙ ap (dead_state dead c) (a.each c lt) ∙ ap (λ t. if t then dead_state dead c (g (cell_of r c)) else g (cell_of r c)) (sym (eq-eqb r r refl));
-}
+swept_states_are_restored left region dead is f r old states t a s =
+    subst (λ l. AreOf (states_before l f) r 256 states) (sym is)
+    (subst (λ q. AreOf (states_before (Sweep q dead) f) r 256 states) (sym (sweep_touches_its_region region dead r (ap touched (sym is) ∙ t))) (record {
+      count = s.count ∙ a.count;
+      each = λ c lt. s.each c ∙ ap (dead_state dead c) (a.each c lt) ∙ ap (λ b. if b then dead_state dead c (f (cell_of r c)) else f (cell_of r c)) (sym (eq-eqb r r refl));
+    }))
 
-pub reclaimed_states_are_before : (r : ℕ) (storage : UsedRegion) (g : ObjRef → ℕ) (states : List ℕ) → AreOf (storage_states storage) r 256 states → states ≡ states_of_region (states_before (Reclaim r storage) g) r
+pub reclaimed_states_are_restored : (left : Undo) (region : ℕ) (storage : UsedRegion) → left ≡ Reclaim region storage → (f : ObjRef → ℕ) (r : ℕ) (states : List ℕ) → touched left ≡ Some r → ((q : ℕ) → AreOf (storage_states storage) q 256 states) → AreOf (states_before left f) r 256 states
+unfolding states_before touched
+reclaimed_states_are_restored left region storage is f r states t a =
+    let same : region ≡ r = equal_options_name_same_region region r (subst (λ u. touched u ≡ Some r) is t) in
+    subst (λ l. AreOf (states_before l f) r 256 states) (sym is)
+    (subst (λ q. AreOf (states_before (Reclaim q storage) f) r 256 states) (sym same) (record {
+      count = (a r).count;
+      each = λ c lt. (a r).each c lt ∙ ap (λ b. if b then storage_states storage (cell_of r c) else f (cell_of r c)) (sym (eq-eqb r r refl));
+    }))
+
+pub other_states_stay : (left : Undo) → ((region : ℕ) (dead : List (ℕ × Object)) → left ≡ Sweep region dead → ⊥) → ((region : ℕ) (storage : UsedRegion) → left ≡ Reclaim region storage → ⊥)
+    → (f : ObjRef → ℕ) (r : ℕ) (states : List ℕ) → touched left ≡ Some r → AreOf f r 256 states → AreOf (states_before left f) r 256 states
 unfolding states_before
-reclaimed_states_are_before r storage g states a = bytes_are_states (states_before (Reclaim r storage) g) r states (record {
-  count = a.count;
-  each = λ c lt. a.each c lt ∙ ap (λ t. if t then storage_states storage (cell_of r c) else g (cell_of r c)) (sym (eq-eqb r r refl));
-})
+other_states_stay left no_sweep no_reclaim f r states t a =
+    by_region (λ u. left ≡ u → touched u ≡ Some r → AreOf (states_before u f) r 256 states)
+    (λ at slot old is t. record { count = a.count; each = a.each })
+    (λ at slot old logged is t. record { count = a.count; each = a.each })
+    (λ region d dead is t. absurd (no_sweep region (d ∷ dead) is))
+    (λ region storage is t. absurd (no_reclaim region storage is))
+    (λ u n is t. record_that_touches_no_region u n r _ t)
+    left refl t
 
 -- the next of the dead objects is written
 pub dead_state_is_written : (dead : List (ℕ × Object)) (i : ℕ) (d : ℕ × Object) (y : ℕ) (old states : List ℕ) → i < length dead → d ≡ slice_index_or dead i d → d.0 < length states → y ≡ cell_state (Some d.1)

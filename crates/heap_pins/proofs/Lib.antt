@@ -27,4 +27,5 @@ pub mod PinViews
 pub mod SlotTables
 pub mod NumberPages
 pub mod KeptSteps
+pub mod SharedCopies
 pub mod FirstCells

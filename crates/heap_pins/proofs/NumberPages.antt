@@ -1,4 +1,4 @@
--- Numbers in pages: one is read or written, and a page is made.
+-- Numbers in groups: one is read or written, and a group is made.
 use Rattle.std.proofs.Common.{◌≡◌, ◌≢◌, ◌⊎◌, ℕ, zero, suc, ◌+◌, ◌*◌, ◌/◌, ◌%◌, ◌<◌, ◌≤◌, List, [], ◌∷◌, ◌++◌, length, length-set, set, get_or, replicate, inl, inr, refl, sym, ap, ◌∙◌, arith}
 use Rattle.std.proofs.lemmas.List.{ext_get_or, length-append, length-replicate, get_or-set_same, get_or-set_other, get_or_past}
 use Rattle.std.proofs.lemmas.List.FromFn.{get_or-map-range_with_len, length-map-range_with_len}
@@ -17,13 +17,13 @@ pub number_is_read : (pages numbers : List ℕ) (count r : ℕ) → r < count �
 unfolding region_numbers
 number_is_read pages numbers count r lt = get_or-map-range_with_len (region_number pages numbers) 0 count r r 0 lt (omega arith)
 
--- a page that isn't made has zeros alone
+-- a group that isn't made has zeros alone
 pub number_on_no_page : (numbers : List ℕ) (s k : ℕ) → s ≡ 0 → number_on numbers s k ≡ 0
 unfolding number_on
 number_on_no_page numbers zero k e = refl
 number_on_no_page numbers (suc p) k e = absurd (omega (arith, e))
 
--- where the numbers of a page begin
+-- where the numbers of a group begin
 pub number_on_page : (numbers : List ℕ) (s k start : ℕ) → 256 * s ≡ start + 256 → number_on numbers s k ≡ get_or numbers (start + k) 0
 unfolding number_on
 number_on_page numbers zero k start e = absurd (omega (arith, e))
@@ -48,7 +48,7 @@ module _ (pages numbers : List ℕ) (capacity r start v : ℕ) (t : ArePages pag
   number_written : region_number pages (set numbers place v) r ≡ v
   number_written = number_on_page (set numbers place v) (get_or pages (r / 256) 0) (r % 256) start at ∙ get_or-set_same numbers place v 0 place_is_there
 
-  -- a page whose number isn't written at this place
+  -- a group whose number isn't written at this place
   other_page_stays : (s k : ℕ) → (256 * s ≢ start + 256) ⊎ (k ≢ r % 256) → k < 256 → number_on (set numbers place v) s k ≡ number_on numbers s k
   unfolding number_on
   other_page_stays zero k apart below = refl
@@ -93,9 +93,9 @@ module _ (pages numbers : List ℕ) (capacity r start v : ℕ) (t : ArePages pag
     apart = t.apart;
   }
 
--- ---- a page is made
+-- ---- a group is made
 
--- the numbers of the pages made end where the next page begins
+-- the numbers of the groups made end where the next group begins
 pub page_numbers_follow : (pages numbers : List ℕ) (capacity : ℕ) → ArePages pages numbers capacity → 256 * (length numbers / 256 + 1) ≡ length numbers + 256
 page_numbers_follow pages numbers capacity t = omega (arith, t.count)
 

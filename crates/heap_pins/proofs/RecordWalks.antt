@@ -1,32 +1,32 @@
 -- A pin that is walked back, record by record.
-use Rattle.std.proofs.Common.{◌≡◌, ◌≢◌, ◌⊎◌, ℕ, zero, suc, ◌+◌, ◌-◌, ◌*◌, ◌<◌, Bool, true, false, List, [], ◌∷◌, length, length-set, set, replicate, Option, Some, None, refl, sym, ap, subst, ◌∙◌, arith}
+use Rattle.std.proofs.Common.{◌≡◌, ℕ, zero, suc, ◌+◌, ◌-◌, ◌*◌, ◌<◌, Bool, true, false, List, [], ◌∷◌, length, length-set, set, replicate, Option, Some, None, refl, sym, ap, subst, ◌∙◌, arith}
 use mathlib.Core.Logic.{inl, inr}
 use Rattle.std.specs.Prelude.{◌==◌, is_some, slice_get, slice_index_or, Result, Ok, Err, OnOk, if◌then◌else◌}
 use Rattle.std.proofs.lemmas.List.{get_or-set_same, get_or-set_other, length-replicate}
 use Rattle.heap_class.specs.declared.ObjRef.{ObjRef}
-use Rattle.heap_region.specs.Regions.{Object, UsedRegion}
 use Rattle.heap_region.specs.RegionCopies.{Frozen}
 use Rattle.heap_region.proofs.ChangedLookups.{same_or_not}
 use Rattle.heap_world.specs.State.{HeapState}
 use Rattle.heap_world.specs.Legal.{IsLegal}
 use Rattle.heap_step.specs.declared.Event.{Event}
 use Rattle.heap_step.specs.declared.Undo.{Undo}
-use Rattle.heap_step.specs.declared.Undo.TheVariants.{Put, Store, Reg, New, Class, Snap, Mark, Drain, Finish, Sweep, Reclaim}
+use Rattle.heap_step.specs.declared.Undo.TheVariants.{Put, Store, Reg, New, Class, Finish, Sweep, Reclaim}
 use Rattle.heap_step.specs.Laws.{IsStep}
 use Rattle.heap_step.specs.Records.{undone}
 use Rattle.heap_step.proofs.EventLaws.{undo_restores}
-use Rattle.heap_pins.specs.KeptCopies.{touched, patched, has_copy, with_copy}
+use Rattle.heap_pins.specs.KeptCopies.{touched, has_copy, with_copy}
 use Rattle.heap_pins.specs.KeptRegions.{blank, byte_revived}
 use Rattle.heap_pins.specs.Pin.{PinContents, byte_in, region_seen, state_kept, state_seen, states_of_region}
 use Rattle.heap_pins.specs.Shows.{AreCells, IsPinOf, ShowsState, OfFirst, Holds}
 use Rattle.heap_pins.specs.States.{cell_states}
 use Rattle.heap_pins.specs.Walk.{ShowsBack, TellsBefore, states_before, registers_before, classes_before, walked_copy}
-use Rattle.heap_pins.specs.WalkedPins.{IsRevived, IsWalked, IsWalkedBack, with_copy_before, with_old_register, with_old_word, without_new}
+use Rattle.heap_pins.specs.WalkedPins.{IsRevived, IsWalked, IsWalkedBack, with_copy_before, with_old_register, without_new}
 use Rattle.heap_pins.proofs.CellStates.{length_states, copied_cell_has_its_byte, free_cell_is_kept, taken_cell_was_empty, same_pin_same_state}
 use Rattle.heap_pins.proofs.HeldPins.{property_of_first_state}
 use Rattle.heap_pins.proofs.KeptStates.{cells_with_byte_are_cells, cells_with_copy_are_cells, byte_is_written, other_byte_stays, IsTaken, taken_or_not, taken_state_was_empty, other_state_was_same, copy_shows_its_region, copy_leaves_others}
 use Rattle.heap_pins.proofs.OpenedPins.{blank_cells_are_cells, opened_pin_shows_its_state}
 use Rattle.heap_pins.proofs.Others.{undoing_keeps_region_count}
+use Rattle.heap_pins.proofs.RecordCases.{by_region, record_that_touches_no_region}
 use Rattle.heap_pins.proofs.States.{other_region_keeps_states, sweep_of_none_tells_states_now, tells_before}
 use Rattle.heap_pins.proofs.WalkInvariants.{walk_shows_beside_later_state, walk_shows_beside_itself, of_one_more}
 
@@ -112,20 +112,25 @@ same_cells_walk_back left w p q t classes registers copies cells ended stays siz
 
 -- ---- each record
 
--- the old word is put back into a slot
-pub walk_back_over_put : (left : Undo) (w : HeapState) (p q : PinContents) (at : ObjRef) (slot old : ℕ) (f : Frozen) → left ≡ Put at slot old → at.region < length p.copies → AreCells p.cells (length p.copies) → region_seen p w.regions at.region ≡ Some f
-    → q ≡ with_old_word w at slot old p → IsWalkedBack left w p q
-unfolding touched registers_before classes_before states_before walked_copy patched
-walk_back_over_put left w p q at slot old f is lt cells seen h = subst (λ l. IsWalkedBack l w p q) (sym is)
-    (walk_back_with_copy (Put at slot old) w p q at.region (patched (Put at slot old) f) refl lt cells refl refl (ap (walked_copy (Put at slot old)) seen) h)
+-- a step that touched a region left the registers and the classes
+touched_step_keeps_lists : (left : Undo) (r : ℕ) (registers : List ℕ) (classes : ℕ) → touched left ≡ Some r → (registers_before left registers ≡ registers) × (classes_before left classes ≡ classes)
+unfolding registers_before classes_before
+touched_step_keeps_lists left r registers classes t = by_region (λ u. left ≡ u → (registers_before u registers ≡ registers) × (classes_before u classes ≡ classes))
+    (λ at slot old is. (refl, refl))
+    (λ at slot old logged is. (refl, refl))
+    (λ region d dead is. (refl, refl))
+    (λ region storage is. (refl, refl))
+    (λ u n is. record_that_touches_no_region u n r _ (ap touched (sym is) ∙ t))
+    left refl
 
-pub walk_back_over_store : (left : Undo) (w : HeapState) (p q : PinContents) (at : ObjRef) (slot old : ℕ) (logged : Bool) (f : Frozen) → left ≡ Store at slot old logged → at.region < length p.copies → AreCells p.cells (length p.copies) → region_seen p w.regions at.region ≡ Some f
-    → q ≡ with_old_word w at slot old p → IsWalkedBack left w p q
-unfolding touched registers_before classes_before states_before walked_copy patched
-walk_back_over_store left w p q at slot old logged f is lt cells seen h = subst (λ l. IsWalkedBack l w p q) (sym is)
-    (walk_back_with_copy (Store at slot old logged) w p q at.region (patched (Store at slot old logged) f) refl lt cells refl refl (ap (walked_copy (Store at slot old logged)) seen) h)
+-- what a step overwrote or removed in a region is put back
+pub walk_back_over_touched_region : (left : Undo) (w : HeapState) (p q : PinContents) (r : ℕ) (f : Frozen) → touched left ≡ Some r → r < length p.copies → AreCells p.cells (length p.copies) → walked_copy left (region_seen p w.regions r) ≡ Some f
+    → q ≡ with_copy_before left w r p → IsWalkedBack left w p q
+walk_back_over_touched_region left w p q r f t lt cells is h =
+    let same = touched_step_keeps_lists left r p.registers p.classes t in
+    walk_back_with_copy left w p q r f t lt cells same.0 same.1 is h
 
--- and into a register
+-- the old word is put back into a register
 pub reg_back : (left : Undo) (w : HeapState) (p q : PinContents) (m r old : ℕ) → left ≡ Reg m r old → AreCells p.cells (length p.copies) → q ≡ with_old_register m r old p → IsWalkedBack left w p q
 unfolding touched registers_before classes_before states_before
 reg_back left w p q m r old is cells h = subst (λ l. IsWalkedBack l w p q) (sym is) (subst (IsWalkedBack (Reg m r old) w p) (sym h)
@@ -198,31 +203,20 @@ unfolding touched registers_before classes_before
 walk_back_over_finish left w p q log is cells h = subst (λ l. IsWalkedBack l w p q) (sym is)
     (walk_back_without_copy (Finish log) w p q refl (ap (λ (z : PinContents). z.classes) h.rest) (ap (λ (z : PinContents). z.registers) h.rest) (ap (λ (z : PinContents). z.copies) h.rest) (h.cells (length p.copies) cells) (finish_walks_back log w p q h))
 
-pub walk_back_over_sweep : (left : Undo) (w : HeapState) (p q : PinContents) (region : ℕ) (dead : List (ℕ × Object)) (f : Frozen) → left ≡ Sweep region dead → length dead ≢ 0 → region < length p.copies → AreCells p.cells (length p.copies) → region_seen p w.regions region ≡ Some f
-    → q ≡ with_copy_before (Sweep region dead) w region p → IsWalkedBack left w p q
-unfolding touched registers_before classes_before walked_copy patched
-walk_back_over_sweep left w p q region [] f is some lt cells seen h = absurd (some refl)
-walk_back_over_sweep left w p q region (d ∷ dead) f is some lt cells seen h = subst (λ l. IsWalkedBack l w p q) (sym is)
-    (walk_back_with_copy (Sweep region (d ∷ dead)) w p q region (patched (Sweep region (d ∷ dead)) f) refl lt cells refl refl (ap (walked_copy (Sweep region (d ∷ dead))) seen) h)
-
--- nothing if there were none
-pub walk_back_over_sweep_of_none : (left : Undo) (w : HeapState) (p : PinContents) (region : ℕ) (dead : List (ℕ × Object)) → left ≡ Sweep region dead → length dead ≡ 0 → AreCells p.cells (length p.copies) → IsWalkedBack left w p p
-unfolding touched registers_before classes_before
-walk_back_over_sweep_of_none left w p region [] is none cells = subst (λ l. IsWalkedBack l w p p) (sym is)
-    (same_cells_walk_back (Sweep region []) w p p refl refl refl refl refl refl (λ f at. sweep_of_none_tells_states_now region f at) cells)
-walk_back_over_sweep_of_none left w p region (d ∷ dead) is none cells = absurd (omega (arith, none))
-
-pub reclaim_back : (left : Undo) (w : HeapState) (p q : PinContents) (region : ℕ) (storage : UsedRegion) → left ≡ Reclaim region storage → region < length p.copies → AreCells p.cells (length p.copies)
-    → q ≡ with_copy_before (Reclaim region storage) w region p → IsWalkedBack left w p q
-unfolding touched registers_before classes_before walked_copy
-reclaim_back left w p q region storage is lt cells h = subst (λ l. IsWalkedBack l w p q) (sym is) (walk_back_with_copy (Reclaim region storage) w p q region _ refl lt cells refl refl refl h)
-
 -- nothing of the pin changes
-pub quiet_back : (left : Undo) (w : HeapState) (p : PinContents) → AreCells p.cells (length p.copies) → (left ≡ Snap) ⊎ (((parent : ℕ) × (pushed : ℕ) × (left ≡ Mark parent pushed)) ⊎ ((pushed : ℕ) × (left ≡ Drain pushed))) → IsWalkedBack left w p p
+pub quiet_back : (left : Undo) (w : HeapState) (p : PinContents) → AreCells p.cells (length p.copies) → touched left ≡ None → ((m r old : ℕ) → left ≡ Reg m r old → ⊥) → ((at : ObjRef) (fresh : Bool) (m r old : ℕ) → left ≡ New at fresh m r old → ⊥) → (left ≡ Class → ⊥) → ((log : List ℕ) → left ≡ Finish log → ⊥)
+    → IsWalkedBack left w p p
 unfolding touched registers_before classes_before states_before
-quiet_back left w p cells (inl is) = subst (λ l. IsWalkedBack l w p p) (sym is) (same_cells_walk_back Snap w p p refl refl refl refl refl refl (λ f at. refl) cells)
-quiet_back left w p cells (inr (inl h)) = subst (λ l. IsWalkedBack l w p p) (sym h.2) (same_cells_walk_back (Mark h.0 h.1) w p p refl refl refl refl refl refl (λ f at. refl) cells)
-quiet_back left w p cells (inr (inr h)) = subst (λ l. IsWalkedBack l w p p) (sym h.1) (same_cells_walk_back (Drain h.0) w p p refl refl refl refl refl refl (λ f at. refl) cells)
+quiet_back (Reg m r old) w p cells none a b c d = absurd (a m r old refl)
+quiet_back (New at fresh m r old) w p cells none a b c d = absurd (b at fresh m r old refl)
+quiet_back Class w p cells none a b c d = absurd (c refl)
+quiet_back (Finish log) w p cells none a b c d = absurd (d log refl)
+quiet_back (Put at slot old) w p cells none a b c d = absurd (cc)
+quiet_back (Store at slot old logged) w p cells none a b c d = absurd (cc)
+quiet_back (Reclaim region storage) w p cells none a b c d = absurd (cc)
+quiet_back (Sweep region (x ∷ dead)) w p cells none a b c d = absurd (cc)
+quiet_back (Sweep region []) w p cells none a b c d = same_cells_walk_back (Sweep region []) w p p refl refl refl refl refl refl (λ f at. sweep_of_none_tells_states_now region f at) cells
+quiet_back left w p cells none a b c d = same_cells_walk_back left w p p none refl refl refl refl refl (λ f at. refl) cells
 
 -- what an Ok says more
 pub consequence_of_an_ok : {A E P Q : Type 0} (r : Result A E) → (P → Q) → OnOk r P → OnOk r Q

@@ -21,7 +21,7 @@ use Rattle.heap_step.specs.declared.Undo.{Undo}
 use Rattle.heap_step.specs.Laws.{IsStep}
 use Rattle.heap_step.proofs.Fits.{IsSwept}
 use Rattle.heap_step.proofs.Steps.{new_record_names_an_object, put_record_names_an_object, store_there, sweep_before, reclaim_empty}
-use Rattle.heap_step.specs.declared.Undo.TheVariants.{New}
+use Rattle.heap_step.specs.declared.Undo.TheVariants.{New, Reclaim}
 use Rattle.heap_pins.specs.KeptCopies.{noted, touched}
 use Rattle.heap_pins.proofs.RecordCases.{by_region, equal_options_name_same_region, record_that_touches_no_region}
 use Rattle.heap_pins.specs.Shows.{AreFit, FitIn}
@@ -104,7 +104,21 @@ touched_region_is_in_heap e before after left s region = by_region (λ u. left �
     within : (x : ℕ) → Some x ≡ Some region → x < length after.regions → region < length after.regions
     within x is lt = subst (λ n. n < length after.regions) (equal_options_name_same_region x region is) lt
 
--- so is that of which pins keep something
+-- it is in use, unless it was moved out
+pub touched_region_is_used : (e : Event) (before after : HeapState) (left : Undo) → IsStep e before after left → (region : ℕ) → touched left ≡ Some region → ((r : ℕ) (storage : UsedRegion) → left ≡ Reclaim r storage → ⊥) → IsSome (used_at after.regions region)
+unfolding touched
+touched_region_is_used e before after left s region t no_reclaim = by_region (λ u. left ≡ u → touched u ≡ Some region → IsSome (used_at after.regions region))
+    (λ at slot old is t. used at.region t (used_by_object after.regions at (put_record_names_an_object e before after left s at slot old is)))
+    (λ at slot old logged is t. used at.region t (used_by_object after.regions at (store_there e before after left s at slot old logged is)))
+    (λ r d dead is t. used r t (sweep_used e before after left s r (d ∷ dead) is))
+    (λ r storage is t. absurd (no_reclaim r storage is))
+    (λ u n is t. record_that_touches_no_region u n region _ t)
+    left refl t
+  where
+    used : (x : ℕ) → Some x ≡ Some region → IsSome (used_at after.regions x) → IsSome (used_at after.regions region)
+    used x is some = subst (λ r. IsSome (used_at after.regions r)) (equal_options_name_same_region x region is) some
+
+-- the region of which pins keep something is in the heap
 pub noted_region_is_in_heap : (e : Event) (before after : HeapState) (left : Undo) → IsStep e before after left → (region : ℕ) → noted left ≡ Some region → region < length after.regions
 unfolding noted touched
 noted_region_is_in_heap e before after (New at fresh m k old) s region named =

@@ -5,6 +5,7 @@ pub mod KeptRegions
 pub mod Slots
 pub mod Numbers
 pub mod KeptCopies
+pub mod SharedCopies
 pub mod Laws
 pub mod Shows
 pub mod Walk

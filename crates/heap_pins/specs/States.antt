@@ -1,13 +1,9 @@
 -- The states of the cells of a region, as they are found.
-use Rattle.std.specs.Prelude.{◌≡◌, ◌≢◌, ◌≤◌, ◌<◌, ℕ, Bool, true, List, length, Option, Some, None, option_map, slice_index_or}
+use Rattle.std.specs.Prelude.{◌≡◌, ◌≢◌, ◌≤◌, ◌<◌, ℕ, Bool, true, List, length, Option, Some, None, slice_index_or}
 use Rattle.heap_class.specs.declared.ObjRef.{ObjRef}
 use Rattle.heap_region.specs.Regions.{Object, UsedRegion, Region, cell_object, object_at}
-use Rattle.heap_region.specs.RegionCopies.{frozen, frozen_word_set, region_frozen}
-use Rattle.heap_step.specs.declared.Undo.TheVariants.{Sweep}
-use Rattle.heap_world.specs.State.{HeapState}
-use Rattle.heap_pins.specs.KeptCopies.{has_copy, kept_at, with_dead}
-use Rattle.heap_pins.specs.Pin.{PinContents, byte_in, cell_state, place, state_kept, state_seen, states_of_region}
-use Rattle.heap_pins.specs.Walk.{dead_state, states_before}
+use Rattle.heap_pins.specs.Pin.{PinContents, byte_in, cell_state, place, state_kept, state_seen}
+use Rattle.heap_pins.specs.Walk.{dead_state}
 
 -- a cell of region r
 abbrev pub cell_of : ℕ → ℕ → ObjRef
@@ -50,10 +46,6 @@ cell_states regions at = cell_state (object_at regions at)
 abbrev pub states_by : PinContents → (ObjRef → ℕ) → ObjRef → ℕ
 states_by p now at = state_kept p.ended (byte_in p.cells at) (now at)
 
--- the states after the dead objects are back
-abbrev pub state_with_dead : PinContents → HeapState → ℕ → List (ℕ × Object) → ObjRef → ℕ
-state_with_dead p w r dead = states_by p (states_before (Sweep r dead) (cell_states w.regions))
-
 -- the states of the cells of a region
 abbrev pub storage_states : UsedRegion → ObjRef → ℕ
 storage_states storage at = cell_state (cell_object storage at.cell)
@@ -71,25 +63,6 @@ state_in_storage p storage = states_by p (storage_states storage)
 pub record AreRestored (dead : List (ℕ × Object)) (old states : List ℕ) : Type 0 where
   pub count : length states ≡ length old
   pub each : (c : ℕ) → slice_index_or states c 0 ≡ dead_state dead c (slice_index_or old c 0)
-
--- the pin with a copy of a region, unless it has one, with the old word in its slot
-abbrev pub kept_word : HeapState → ObjRef → ℕ → ℕ → PinContents → PinContents
-kept_word w at slot old p =
-    kept_at at.region
-    (option_map (frozen_word_set at.cell slot old) (region_frozen w.regions at.region))
-    (states_of_region (states_by p (cell_states w.regions)) at.region) (has_copy at.region p) p
-
--- the pin with a copy of a region, unless it has one, with the dead objects in their cells
-abbrev pub kept_dead : HeapState → ℕ → List (ℕ × Object) → PinContents → PinContents
-kept_dead w r dead p =
-    kept_at r (option_map (with_dead dead) (region_frozen w.regions r))
-    (states_of_region (state_with_dead p w r dead) r) (has_copy r p) p
-
--- the pin with a copy of a region that was moved out, unless it has one
-abbrev pub kept_region : ℕ → UsedRegion → PinContents → PinContents
-kept_region r storage p =
-    kept_at r (Some (frozen storage)) (states_of_region (state_in_storage p storage) r)
-    (has_copy r p) p
 
 -- the states of the cells of a region without a copy, by their bytes and the old ones
 pub record AreSettled (ended : Bool) (bytes old states : List ℕ) : Type 0 where

@@ -1,17 +1,19 @@
 -- Pins that were walked back to a past state.
-use Rattle.std.specs.Prelude.{◌≡◌, ℕ, ◌+◌, ◌<◌, Bool, true, List, ◌∷◌, length, Some, None, option_map, slice_get, slice_index_or, slice_set, if◌then◌else◌}
+use Rattle.std.specs.Prelude.{◌≡◌, ℕ, ◌+◌, ◌<◌, Bool, true, List, ◌∷◌, length, Some, None, slice_get, slice_index_or, slice_set, if◌then◌else◌}
 use Rattle.heap_class.specs.declared.ObjRef.{ObjRef}
-use Rattle.heap_region.specs.Regions.{Object, Region}
-use Rattle.heap_region.specs.RegionCopies.{Frozen, frozen_words, frozen_word_set}
+use Rattle.heap_region.specs.Regions.{Region}
+use Rattle.heap_region.specs.RegionCopies.{Frozen}
 use Rattle.heap_world.specs.State.{HeapState, register_index}
 use Rattle.heap_step.specs.declared.Event.{Event}
 use Rattle.heap_step.specs.declared.Undo.{Undo}
+use Rattle.heap_step.specs.declared.Undo.TheVariants.{Reclaim}
 use Rattle.heap_step.specs.Laws.{IsStep}
 use Rattle.heap_step.specs.Records.{undone}
 use Rattle.heap_pins.specs.KeptRegions.{byte_revived}
 use Rattle.heap_pins.specs.KeptCopies.{has_copy, with_byte, with_copy}
 use Rattle.heap_pins.specs.Pin.{PinContents, byte_in, region_seen, state_seen, states_of_region}
-use Rattle.heap_pins.specs.Shows.{AreCells, AreFit, Holds, IsPinOf, OfFirst, ShowsState}
+use Rattle.heap_pins.specs.SharedCopies.{IsPatchable}
+use Rattle.heap_pins.specs.Shows.{AreCells, Holds, IsPinOf, OfFirst, ShowsState}
 use Rattle.heap_pins.specs.Walk.{ShowsBack, WalksFor, classes_before, registers_before, states_before, walked_copy}
 
 -- the pin was walked n records back to the state x, which is the last of the first n + 1 of these, and it shows x beside each
@@ -58,15 +60,10 @@ IsFreshPin p w = (past : List HeapState) → IsWalked p w 0 (w ∷ past)
 abbrev pub Sees : PinContents → List Region → ℕ → Frozen → Type 0
 Sees p regions r f = region_seen p regions r ≡ Some f
 
--- the pin shows an object at this place with this slot
-abbrev pub SeesSlot : PinContents → List Region → ObjRef → ℕ → Type 0
-SeesSlot p regions at slot =
-    (f : Frozen) × Sees p regions at.region f × (slot < length (frozen_words f at.cell))
-
--- the pin shows region r, with cells into which the dead objects fit
-abbrev pub SeesRoom : PinContents → List Region → ℕ → List (ℕ × Object) → Type 0
-SeesRoom p regions r dead =
-    (f : Frozen) × Sees p regions r f × AreFit f.cell_size (length f.cells) dead
+-- the pin shows region r with what the record patches, unless the record has the region itself
+abbrev pub CanPatch : Undo → PinContents → List Region → ℕ → Type 0
+CanPatch (Reclaim region storage) p regions r = Unit {0}
+CanPatch left p regions r = (f : Frozen) × Sees p regions r f × IsPatchable left f
 
 -- the pin without a copy of region r
 abbrev pub without_copy : ℕ → PinContents → PinContents
@@ -82,13 +79,6 @@ abbrev pub with_copy_before : Undo → HeapState → ℕ → PinContents → Pin
 with_copy_before left w r p =
     with_copy r (walked_copy left (region_seen p w.regions r))
     (states_of_region (states_before left (state_seen p w.regions)) r) p
-
--- the pin with the old word in its slot, in a copy of the region
-abbrev pub with_old_word : HeapState → ObjRef → ℕ → ℕ → PinContents → PinContents
-with_old_word w at slot old p =
-    with_copy at.region
-    (option_map (frozen_word_set at.cell slot old) (region_seen p w.regions at.region))
-    (states_of_region (state_seen p w.regions) at.region) p
 
 -- the pin without the object at this place, or without all objects of its region (the flag)
 abbrev pub without_new : ObjRef → Bool → PinContents → PinContents

@@ -1,12 +1,17 @@
 //! The states of cells: a cell is empty, has a live object, or has one that is not live.
-ghost use Rattle.std.specs.Prelude.{◌≡◌, ◌<◌, ℕ, if◌then◌else◌, All};
+ghost use Rattle.std.specs.Prelude.{◌≡◌, ◌<◌, ℕ, if◌then◌else◌, All, Some};
+ghost use Rattle.heap_class.specs.declared.ObjRef.{ObjRef};
 ghost use Rattle.heap_region.specs.Limits.{cell_limit};
 ghost use Rattle.heap_region.specs.Regions.{cell_object};
+ghost use Rattle.heap_pins.specs.KeptCopies.{touched};
 ghost use Rattle.heap_pins.specs.Pin.{cell_state, state_kept};
+ghost use Rattle.heap_pins.specs.SharedCopies.{HasLowCells};
 ghost use Rattle.heap_pins.specs.States.{AreOf, AreRestored, AreSettled, cell_states, storage_states};
+ghost use Rattle.heap_pins.specs.Walk.{states_before};
 
 use crate::kept::blank;
 use heap_region::{ObjectCopy, RegionView, Regions};
+use heap_step::Undo;
 
 // The state of an empty cell.
 pub(crate) const EMPTY: u8 = 0;
@@ -53,8 +58,22 @@ pub(crate) fn storage_state(storage: &RegionView<'_>, cell: u64) -> u8
     }
 }
 
+// Makes of the states of the cells of the region that a step touched, which are those after it, the ones before it, by the step's
+// record.
+pub(crate) fn restore_states(states: &mut [u8; 256], left: &Undo)
+    requires { HasLowCells left.now }
+    ensures { (f : ObjRef → ℕ) (r : ℕ) → touched left.now ≡ Some r → AreOf f r cell_limit states.old
+        → AreOf (states_before left.now f) r cell_limit states.new }
+{
+    match left {
+        Undo::Sweep { dead, .. } => restore_dead(states, dead.as_slice()),
+        Undo::Reclaim { storage, .. } => *states = storage_states(&storage.view()),
+        _ => {}
+    }
+}
+
 // Writes the states of dead objects that are back in a region.
-pub(crate) fn restore_dead(states: &mut [u8; 256], dead: &[(u64, ObjectCopy)])
+fn restore_dead(states: &mut [u8; 256], dead: &[(u64, ObjectCopy)])
     requires within { All (λ d. d.0 < cell_limit) dead.now }
     ensures { AreRestored dead.now states.old states.new }
 {

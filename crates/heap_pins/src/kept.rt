@@ -7,6 +7,7 @@ ghost use Rattle.heap_pins.specs.KeptRegions.{IsKeptOf, IsRevivedTable, blank, n
 ghost use Rattle.heap_pins.specs.Slots.{AreRevived, AreSlots, IsByteRevived, IsItemRevived, IsSlotFor};
 
 use crate::numbers::RegionNumbers;
+use crate::region_copy::RegionCopy;
 use heap_class::Refusal;
 use heap_region::FrozenRegion;
 use std::alloc::Global;
@@ -15,7 +16,7 @@ use std::marker::Model;
 // What a pin keeps of a region: a copy of it, if it was overwritten, and a byte for each cell.
 #[derive(Drop)]
 pub(crate) struct KeptRegion {
-    pub(crate) copy: Option<FrozenRegion>,
+    pub(crate) copy: Option<RegionCopy>,
     pub(crate) cells: [u8; 256],
 }
 
@@ -84,7 +85,7 @@ impl KeptRegions {
         match self.slots.get(region) {
             0 => None,
             slot => match &self.kept[slot as usize - 1].copy {
-                Some(copy) => Some(copy),
+                Some(copy) => Some(copy.region()),
                 None => None,
             },
         }
@@ -136,7 +137,7 @@ impl KeptRegions {
     }
 
     // Puts a copy of a region in, and writes the region's bytes. Takes no memory.
-    pub(crate) fn put(&mut self, region: u64, copy: FrozenRegion, bytes: &[u8; 256])
+    pub(crate) fn put(&mut self, region: u64, copy: RegionCopy, bytes: &[u8; 256])
         requires { region < length self.old.copies }
         ensures { self.new ≡ record {
           copies = slice_set self.old.copies region (Some copy);
@@ -148,7 +149,7 @@ impl KeptRegions {
     }
 
     // Puts a copy of a region in. Takes no memory.
-    fn set_copy(&mut self, region: u64, copy: FrozenRegion)
+    fn set_copy(&mut self, region: u64, copy: RegionCopy)
         requires { region < length self.old.copies }
         ensures { self.new ≡ record self.old {
           copies = slice_set self.old.copies region (Some copy);
@@ -160,7 +161,7 @@ impl KeptRegions {
     }
 
     // Takes the copy of a region out, if there is one.
-    pub(crate) fn take_copy(&mut self, region: u64) -> Option<FrozenRegion>
+    pub(crate) fn take_copy(&mut self, region: u64) -> Option<RegionCopy>
         requires { region < length self.old.copies }
         ensures taken { result ≡ slice_index_or self.old.copies region None }
         ensures left { self.new ≡ record self.old {

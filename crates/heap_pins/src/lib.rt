@@ -13,11 +13,13 @@ mod kept;
 mod numbers;
 mod pin;
 mod reads;
+mod region_copy;
 mod view;
 mod walk;
 
 use heap_step::undo_restores;
 pub use pin::{Pin, ends_cycle, noted_region, touched_region};
+pub use region_copy::RegionCopy;
 pub use view::PinView;
 
 /// States that a region that a record doesn't name still has all that it had before the step.

@@ -7,18 +7,18 @@ ghost use Rattle.heap_pins.specs.Numbers.{ArePages, region_number};
 use std::alloc::{AllocError, Global};
 use std::marker::Model;
 
-// How many regions a page has.
+// How many regions a group has.
 const PAGE: usize = 256;
 
-// A number for each region, 0 at first. The numbers stand in pages of 256 regions, of which each is made once one of its
-// numbers is written. So opening a table of all regions writes only one number a page.
+// A number for each region, 0 at first. The numbers stand in groups of 256 regions, of which each is made once one of its
+// numbers is written. So opening a table of all regions writes only one number a group.
 #[derive(Drop)]
 pub(crate) struct RegionNumbers {
     // How many regions there are.
     count: u64,
-    // For each page one more than its index among the pages made, or 0 if it isn't made.
+    // For each group one more than its index among the groups made, or 0 if it isn't made.
     pages: Vec<u32>,
-    // The numbers of the pages made, one page after another.
+    // The numbers of the groups made, one group after another.
     numbers: Vec<u32>,
 }
 
@@ -76,7 +76,7 @@ impl RegionNumbers {
     }
 }
 
-// Returns where the numbers of a page begin, once it is made. Takes no memory.
+// Returns where the numbers of a group begin, once it is made. Takes no memory.
 #[inline(always)]
 fn page_start(pages: &mut Vec<u32>, numbers: &mut Vec<u32>, page: usize) -> usize
     requires table { ArePages pages.old.items numbers.old.items (vec_capacity numbers.old) }
@@ -93,7 +93,7 @@ fn page_start(pages: &mut Vec<u32>, numbers: &mut Vec<u32>, page: usize) -> usiz
     }
 }
 
-// Makes a page, of which all numbers are 0, and returns where they begin. Takes no memory.
+// Makes a group, of which all numbers are 0, and returns where they begin. Takes no memory.
 #[inline(never)]
 fn add_page(pages: &mut Vec<u32>, numbers: &mut Vec<u32>, page: usize) -> usize
     requires table { ArePages pages.old.items numbers.old.items (vec_capacity numbers.old) }
@@ -111,7 +111,7 @@ fn add_page(pages: &mut Vec<u32>, numbers: &mut Vec<u32>, page: usize) -> usize
     start
 }
 
-// Appends the numbers of a page, which are all 0. Takes no memory.
+// Appends the numbers of a group, which are all 0. Takes no memory.
 fn push_page(numbers: &mut Vec<u32>)
     requires { length numbers.old.items + 256 ≤ vec_capacity numbers.old }
     ensures items { numbers.new.items ≡ numbers.old.items ++ replicate 256 0 }

@@ -1,23 +1,21 @@
 //! A pin: a past state as a dump needs it, kept beside the heap that goes on.
-ghost use Rattle.std.specs.Prelude.{◌≡◌, ◌<◌, [], length, None, IsSome, IfSome, IfOk, IfErr, OnOk, OnErr, slice_index_or, slice_set, replicate, is_some, All, if◌then◌else◌};
+ghost use Rattle.std.specs.Prelude.{◌≡◌, ◌<◌, [], length, None, Some, IsSome, IfOk, IfErr, OnOk, OnErr, slice_index_or, slice_set, replicate, is_some, if◌then◌else◌};
 ghost use Rattle.heap_class.specs.declared.Refusal.TheVariants.{NoMemory};
 ghost use Rattle.heap_region.specs.Limits.{cell_limit};
-ghost use Rattle.heap_region.specs.Regions.{object_at, used_at};
-ghost use Rattle.heap_region.specs.RegionCopies.{region_frozen};
 ghost use Rattle.heap_world.specs.State.{HeapState};
 ghost use Rattle.heap_step.specs.declared.Event.{Event};
 ghost use Rattle.heap_step.specs.declared.Undo.TheVariants.{Sweep};
 ghost use Rattle.heap_step.specs.Laws.{IsStep};
 ghost use Rattle.heap_pins.specs.Pin.{state_seen};
-ghost use Rattle.heap_pins.specs.KeptCopies.{ends_cycle, has_copy, kept, noted, touched, with_byte, with_dead};
-ghost use Rattle.heap_pins.specs.Shows.{AreFit, FitIn};
-ghost use Rattle.heap_pins.specs.States.{AreOf, AreSettled, kept_dead, kept_region, kept_word};
+ghost use Rattle.heap_pins.specs.KeptCopies.{ends_cycle, has_copy, kept, noted, touched, with_byte};
+ghost use Rattle.heap_pins.specs.SharedCopies.{SharesBefore};
+ghost use Rattle.heap_pins.specs.States.{AreOf, AreSettled};
 ghost use Rattle.heap_pins.specs.WalkedPins.{IsFreshPin};
 
-use crate::cells::{TAKEN, restore_dead, settle_states, states_now, storage_states};
+use crate::cells::{TAKEN, restore_states, settle_states, states_now};
 use crate::kept::{KeptRegions, blank, copied, filled, make_live};
+use crate::region_copy::{RegionCopy, copy_before};
 use heap_class::{ObjRef, Refusal};
-use heap_region::{FrozenRegion, ObjectCopy, Storage};
 use heap_step::Undo;
 use heap_sweep::DeadCells;
 use heap_world::World;
@@ -132,36 +130,45 @@ impl Pin {
 
     /// Keeps of a step what the pin needs of it, by the step's record: a copy of the region of which it overwrote a word or
     /// removed an object, if the pin has none, with what the record has of it; the cells that it took; and whether it ended a
-    /// cycle. The step must have left this record and led to this state. Fails with NoMemory if a copy can't be allocated, and
-    /// the pin is unchanged then.
-    pub fn keep(&mut self, world: &World, left: &Undo) -> Result<(), Refusal>
+    /// cycle. The step must have left this record and led to this state. Pins share the copy: `shared` is the one that other pins
+    /// have of this step, or None if none has one yet; the pin then puts its own there. Fails with NoMemory if a copy can't be
+    /// allocated, and the pin is unchanged then.
+    pub fn keep(
+        &mut self,
+        world: &World,
+        left: &Undo,
+        shared: &mut Option<RegionCopy>,
+    ) -> Result<(), Refusal>
         requires step { (e : Event) × (before : HeapState) × IsStep e before world.now left.now }
         requires sized { length self.old.copies ≡ length world.now.regions }
+        requires shared { SharesBefore left.now world.now shared.old }
         ensures kept { OnOk result (self.new ≡ kept left.now world.now self.old) }
         ensures unchanged { OnErr result (self.new ≡ self.old) }
         ensures refused { IfErr result (λ e. e ≡ NoMemory) }
         ensures touched { OnErr result (IsSome (touched left.now)) }
+        ensures shared { SharesBefore left.now world.now shared.new }
+    {
+        match touched_region(left) {
+            Some(region) => self.keep_copy(world, left, region, shared),
+            None => {
+                self.note(left);
+                Ok(())
+            }
+        }
+    }
+
+    /// Keeps of a step that touched no region what `keep` does: the cells that it took, and whether it ended a cycle. Takes no
+    /// memory.
+    pub fn note(&mut self, left: &Undo)
+        requires step { (e : Event) × (before after : HeapState) × IsStep e before after left.now
+            × (length self.old.copies ≡ length after.regions) }
+        requires untouched { touched left.now ≡ None }
+        ensures { (v : HeapState) → self.new ≡ kept left.now v self.old }
     {
         match left {
-            Undo::Put { at, slot, old } => self.keep_word(world, *at, *slot as u64, *old),
-            Undo::Store { at, slot, old, .. } => { self.keep_word(world, *at, *slot as u64, *old) }
-            Undo::Sweep { region, dead } => {
-                if dead.len() == 0 {
-                    Ok(())
-                } else {
-                    self.keep_dead(world, *region, dead)
-                }
-            }
-            Undo::Reclaim { region, storage } => self.keep_region(world, *region, storage),
-            Undo::New { at, fresh, .. } => {
-                self.keep_new(*at, *fresh);
-                Ok(())
-            }
-            Undo::Finish { .. } => {
-                self.ended = true;
-                Ok(())
-            }
-            _ => Ok(()),
+            Undo::New { at, fresh, .. } => self.keep_new(*at, *fresh),
+            Undo::Finish { .. } => self.ended = true,
+            _ => {}
         }
     }
 
@@ -204,63 +211,31 @@ impl Pin {
         self.kept.set_bytes(region, &filled(byte));
     }
 
-    // Copies a region of which a word was overwritten, with the old word.
-    fn keep_word(&mut self, world: &World, at: ObjRef, slot: u64, old: u64) -> Result<(), Refusal>
-        requires there { IsSome (object_at world.now.regions at) }
-        requires within { IfSome (object_at world.now.regions at) (λ o. slot < length o.words) }
+    // Keeps a copy of the region that the step touched, as it was before the step, unless the pin has one.
+    fn keep_copy(
+        &mut self,
+        world: &World,
+        left: &Undo,
+        region: u64,
+        shared: &mut Option<RegionCopy>,
+    ) -> Result<(), Refusal>
+        requires touched { touched left.now ≡ Some region }
+        requires step { (e : Event) × (before : HeapState) × IsStep e before world.now left.now }
         requires sized { length self.old.copies ≡ length world.now.regions }
-        ensures kept { OnOk result (self.new ≡ kept_word world.now at slot old self.old) }
+        requires shared { SharesBefore left.now world.now shared.old }
+        ensures kept { OnOk result (self.new ≡ kept left.now world.now self.old) }
         ensures unchanged { OnErr result (self.new ≡ self.old) }
         ensures refused { IfErr result (λ e. e ≡ NoMemory) }
+        ensures shared { SharesBefore left.now world.now shared.new }
     {
-        let region = at.region as u64;
         if self.has_copy(region) {
             return Ok(());
         }
-        let mut copy = world.regions().freeze(region)?;
-        copy.set_word(at.cell as u64, slot, old);
-        let states = self.states(world, region);
+        let copy = copy_before(world, left, region, shared)?;
+        let mut states = states_now(world.regions(), region);
+        restore_states(&mut states, left);
+        self.settle(region, &mut states);
         self.kept.put(region, copy, &states);
-        Ok(())
-    }
-
-    // Copies a region that lost these dead objects, with them.
-    fn keep_dead(&mut self, world: &World, region: u16, dead: &DeadCells) -> Result<(), Refusal>
-        requires used { IsSome (used_at world.now.regions region) }
-        requires fit { FitIn (region_frozen world.now.regions region) dead.now }
-        requires within { All (λ d. d.0 < cell_limit) dead.now }
-        requires sized { length self.old.copies ≡ length world.now.regions }
-        ensures kept { OnOk result (self.new ≡ kept_dead world.now region dead.now self.old) }
-        ensures unchanged { OnErr result (self.new ≡ self.old) }
-        ensures refused { IfErr result (λ e. e ≡ NoMemory) }
-    {
-        if self.has_copy(region as u64) {
-            return Ok(());
-        }
-        let mut copy = world.regions().freeze(region as u64)?;
-        put_dead(&mut copy, dead.as_slice());
-        let mut states = states_now(world.regions(), region as u64);
-        restore_dead(&mut states, dead.as_slice());
-        self.settle(region as u64, &mut states);
-        self.kept.put(region as u64, copy, &states);
-        Ok(())
-    }
-
-    // Copies a region that was moved out.
-    fn keep_region(&mut self, world: &World, region: u16, storage: &Storage) -> Result<(), Refusal>
-        requires sized { region < length self.old.copies }
-        ensures kept { OnOk result (self.new ≡ kept_region region storage.now self.old) }
-        ensures unchanged { OnErr result (self.new ≡ self.old) }
-        ensures refused { IfErr result (λ e. e ≡ NoMemory) }
-    {
-        if self.has_copy(region as u64) {
-            return Ok(());
-        }
-        let storage = storage.view();
-        let copy = storage.freeze(world.regions().allocator())?;
-        let mut states = storage_states(&storage);
-        self.settle(region as u64, &mut states);
-        self.kept.put(region as u64, copy, &states);
         Ok(())
     }
 
@@ -304,15 +279,5 @@ impl Pin {
             Some(bytes) => copied(bytes),
             None => blank(),
         }
-    }
-}
-
-// Puts the dead objects into their cells.
-pub(crate) fn put_dead(copy: &mut FrozenRegion, dead: &[(u64, ObjectCopy)])
-    requires { AreFit copy.old.cell_size (length copy.old.cells) dead.now }
-    ensures { copy.new ≡ with_dead dead.now copy.old }
-{
-    for (cell, object) in dead {
-        copy.put(*cell, object);
     }
 }

@@ -1,19 +1,20 @@
 //! The walk back: a pin is taken from the current state to a past one, record by record.
-ghost use Rattle.std.specs.Prelude.{◌≡◌, ◌<◌, All, length, IsSome, IfOk, IfErr, OnOk};
+ghost use Rattle.std.specs.Prelude.{◌≡◌, ◌<◌, length, Some, IsSome, IfOk, IfErr, OnOk};
 ghost use Rattle.heap_class.specs.declared.Refusal.TheVariants.{NoMemory};
 ghost use Rattle.heap_world.specs.State.{register_index};
-ghost use Rattle.heap_step.specs.declared.Undo.TheVariants.{Reclaim, Sweep};
+ghost use Rattle.heap_pins.specs.KeptCopies.{touched};
 ghost use Rattle.heap_pins.specs.Pin.{region_seen};
+ghost use Rattle.heap_pins.specs.SharedCopies.{HasLowCells};
+ghost use Rattle.heap_pins.specs.Walk.{walked_copy};
 ghost use Rattle.heap_pins.specs.WalkedPins.{CanWalk, IsRevived, IsWalkedBack};
-ghost use Rattle.heap_pins.specs.WalkedPins.{Sees, SeesRoom, SeesSlot, with_copy_before, with_old_register, with_old_word, without_copy, without_new};
+ghost use Rattle.heap_pins.specs.WalkedPins.{CanPatch, Sees, with_copy_before, with_old_register, without_copy, without_new};
 ghost use Rattle.heap_region.specs.Limits.{cell_limit};
 
-use crate::cells::{EMPTY, TAKEN, restore_dead, storage_states};
-use crate::pin::{Pin, put_dead};
+use crate::cells::{EMPTY, TAKEN, restore_states};
+use crate::pin::{Pin, touched_region};
+use crate::region_copy::RegionCopy;
 use heap_class::{ObjRef, Refusal};
-use heap_region::{FrozenRegion, Storage};
 use heap_step::Undo;
-use heap_sweep::DeadCells;
 use heap_world::World;
 
 impl Pin {
@@ -26,8 +27,6 @@ impl Pin {
         ensures refused { IfErr result (λ e. e ≡ NoMemory) }
     {
         match left {
-            Undo::Put { at, slot, old } => self.unwrite(world, *at, *slot as u64, *old),
-            Undo::Store { at, slot, old, .. } => self.unwrite(world, *at, *slot as u64, *old),
             Undo::Reg { m, r, old } => {
                 self.set_register(*m, *r, *old);
                 Ok(())
@@ -51,46 +50,78 @@ impl Pin {
                 self.revive();
                 Ok(())
             }
-            Undo::Sweep { region, dead } => {
-                if dead.len() == 0 {
-                    Ok(())
-                } else {
-                    self.unsweep(world, *region, dead)
-                }
+            _ => match touched_region(left) {
+                Some(region) => self.put_copy_before(world, left, region),
+                None => Ok(()),
+            },
+        }
+    }
+
+    // Puts in a copy of the region that the step touched, as it was before the step, with the states of its cells then. Fails with
+    // NoMemory if the copy can't be allocated.
+    fn put_copy_before(&mut self, world: &World, left: &Undo, region: u64) -> Result<(), Refusal>
+        requires touched { touched left.now ≡ Some region }
+        requires region { region < length self.old.copies }
+        requires sized { length self.old.copies ≡ length world.now.regions }
+        requires there { CanPatch left.now self.old world.now.regions region }
+        requires within { HasLowCells left.now }
+        ensures put { OnOk result
+            (self.new ≡ with_copy_before left.now world.now region self.old) }
+        ensures refused { IfErr result (λ e. e ≡ NoMemory) }
+    {
+        let mut states = self.states(world, region);
+        restore_states(&mut states, left);
+        let copy = self.take_copy_before(world, left, region)?;
+        self.kept.put(region, copy, &states);
+        Ok(())
+    }
+
+    // Takes the copy of the touched region out of the pin, and returns one of the region before the step: that copy, or one of the
+    // region as it is, with what the record has put back; or one of the region that the record has. Fails with NoMemory if an
+    // allocation fails.
+    fn take_copy_before(
+        &mut self,
+        world: &World,
+        left: &Undo,
+        region: u64,
+    ) -> Result<RegionCopy, Refusal>
+        requires region { region < length self.old.copies }
+        requires there { CanPatch left.now self.old world.now.regions region }
+        ensures taken { let seen = region_seen self.old world.now.regions region in
+            IfOk result (λ c. walked_copy left.now seen ≡ Some c) }
+        ensures left { self.new ≡ without_copy region self.old }
+        ensures refused { IfErr result (λ e. e ≡ NoMemory) }
+    {
+        let alloc = world.regions().allocator();
+        match left {
+            Undo::Reclaim { storage, .. } => {
+                let _own = self.kept.take_copy(region);
+                Ok(RegionCopy::new(alloc, storage.view().freeze(alloc)?)?)
             }
-            Undo::Reclaim { region, storage } => self.unreclaim(world, *region, storage),
-            Undo::Snap | Undo::Mark { .. } | Undo::Drain { .. } => Ok(()),
+            _ => {
+                let mut copy = self.take_copy(world, region)?;
+                copy.patch(alloc, left)?;
+                Ok(copy)
+            }
         }
     }
 
     // Takes the copy of a region out of the pin, or copies the region if the pin has no copy of it. Fails with NoMemory if the
     // allocation fails.
-    fn take_copy(&mut self, world: &World, region: u16) -> Result<FrozenRegion, Refusal>
+    fn take_copy(&mut self, world: &World, region: u64) -> Result<RegionCopy, Refusal>
         requires sized { region < length self.old.copies }
         requires there { IsSome (region_seen self.old world.now.regions region) }
         ensures taken { IfOk result (Sees self.old world.now.regions region) }
         ensures left { self.new ≡ without_copy region self.old }
         ensures refused { IfErr result (λ e. e ≡ NoMemory) }
     {
-        match self.kept.take_copy(region as u64) {
+        match self.kept.take_copy(region) {
             Some(copy) => Ok(copy),
-            None => world.regions().freeze(region as u64),
+            None => {
+                let frozen = world.regions().freeze(region)?;
+                Ok(RegionCopy::new(world.regions().allocator(), frozen)?)
+            }
         }
-    }
-
-    // Writes the old word to a slot, in a copy of its region. Fails with NoMemory if the copy can't be allocated.
-    fn unwrite(&mut self, world: &World, at: ObjRef, slot: u64, old: u64) -> Result<(), Refusal>
-        requires region { at.region < length self.old.copies }
-        requires sized { length self.old.copies ≡ length world.now.regions }
-        requires there { SeesSlot self.old world.now.regions at slot }
-        ensures written { OnOk result (self.new ≡ with_old_word world.now at slot old self.old) }
-        ensures refused { IfErr result (λ e. e ≡ NoMemory) }
-    {
-        let states = self.states(world, at.region as u64);
-        let mut copy = self.take_copy(world, at.region)?;
-        copy.set_word(at.cell as u64, slot, old);
-        self.kept.put(at.region as u64, copy, &states);
-        Ok(())
     }
 
     // Writes the old word to a register.
@@ -121,37 +152,5 @@ impl Pin {
     {
         self.ended = true;
         self.kept.revive();
-    }
-
-    // Puts back the dead objects of a region. Fails with NoMemory if a copy of the region can't be allocated.
-    fn unsweep(&mut self, world: &World, region: u16, dead: &DeadCells) -> Result<(), Refusal>
-        requires region { region < length self.old.copies }
-        requires sized { length self.old.copies ≡ length world.now.regions }
-        requires there { SeesRoom self.old world.now.regions region dead.now }
-        requires within { All (λ d. d.0 < cell_limit) dead.now }
-        ensures swept { OnOk result
-            (self.new ≡ with_copy_before (Sweep region dead.now) world.now region self.old) }
-        ensures refused { IfErr result (λ e. e ≡ NoMemory) }
-    {
-        let mut states = self.states(world, region as u64);
-        restore_dead(&mut states, dead.as_slice());
-        let mut copy = self.take_copy(world, region)?;
-        put_dead(&mut copy, dead.as_slice());
-        self.kept.put(region as u64, copy, &states);
-        Ok(())
-    }
-
-    // Puts back a region that was moved out. Fails with NoMemory if a copy of the region can't be allocated.
-    fn unreclaim(&mut self, world: &World, region: u16, storage: &Storage) -> Result<(), Refusal>
-        requires region { region < length self.old.copies }
-        ensures reclaimed { OnOk result
-            (self.new ≡ with_copy_before (Reclaim region storage.now) world.now region self.old) }
-        ensures refused { IfErr result (λ e. e ≡ NoMemory) }
-    {
-        let storage = storage.view();
-        let copy = storage.freeze(world.regions().allocator())?;
-        self.kept
-            .put(region as u64, copy, &storage_states(&storage));
-        Ok(())
     }
 }

@@ -22,7 +22,7 @@ use Rattle.heap_questions.specs.Changes.{changed_by, made_by, slot_word}
 use Rattle.heap_questions.specs.Graph.{slot_refers}
 use Rattle.heap_questions.specs.SlotChanges.{IsWatchedBack, change_ago, changed, last_changes, refers_at, word_before}
 use Rattle.heap_questions.specs.declared.past.slots.SlotChange.{SlotChange}
-use Rattle.heap_questions.proofs.Walk.{Stands, now_is, slot_there, stands_now, unborn}
+use Rattle.heap_questions.proofs.Walk.{Stands, now_is, slot_there, stands_now, no_making_goes_further}
 use Rattle.heap_questions.proofs.Writes.{record_makes, record_tells, write_before}
 
 -- ---- the word before a record
@@ -62,7 +62,7 @@ one_change_more t at s n now left changes more a r m e =
     let was = before_is r.0 (state_ago (n + 1) t) (state_ago n t) left at s now r.1 a.word m in
     let this : change_ago t at s n ≡ changed (t.place - n) (Some old) (Some now) = ap₂ (changed (t.place - n)) was a.word in
     record {
-      stood = unborn t at n left a.stood r m;
+      stood = no_making_goes_further t at n left a.stood r m;
       word = was;
       told = e
           ∙ ap (λ (xs : List SlotChange). xs ++ changed (t.place - n) (Some old) (Some now)) a.told

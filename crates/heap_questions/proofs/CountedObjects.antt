@@ -41,10 +41,10 @@ use Rattle.heap_questions.specs.ObjectLists.{objects_wanted}
 use Rattle.heap_questions.specs.PastTrails.{IsShownBeside}
 use Rattle.heap_questions.specs.SlotWrites.{seen_object}
 use Rattle.heap_questions.specs.Wanted.{is_of_class, is_wanted}
-use Rattle.heap_questions.proofs.DeadObjects.{in_cells, later, place}
+use Rattle.heap_questions.proofs.DeadObjects.{in_cells, element_of_rest, place}
 use Rattle.heap_questions.proofs.FirstPlaces.{live_of_state, one_made, one_older, seen_as, states_after, written_live}
 use Rattle.heap_questions.proofs.Sizes.{same_regions}
-use Rattle.heap_questions.proofs.ToldObjects.{covered_alike, none_there, one_before, reclaimed_none, told}
+use Rattle.heap_questions.proofs.ToldObjects.{covered_alike, none_there, one_before, reclaimed_none, step_tells_before}
 use Rattle.heap_questions.proofs.Writes.{new_state, old_state, reclaim_state, same_place, sweep_state}
 
 -- ---- counting
@@ -54,8 +54,8 @@ abbrev pub lives_as : ℕ → Option Object → Bool
 lives_as k None = false
 lives_as k (Some o) = o.live && is_of_class o.kind k
 
-abbrev one : ℕ → Option Object → ℕ
-one k x = cond (lives_as k x) 1 0
+abbrev count_of_one : ℕ → Option Object → ℕ
+count_of_one k x = cond (lives_as k x) 1 0
 
 -- how many there are in the cells of a region, and in all regions
 abbrev count_in : ℕ → List Region → ℕ → ℕ
@@ -68,21 +68,21 @@ abbrev pub total : ℕ → List Region → ℕ
 total k regions = sum_by (of_region k) regions
 
 abbrev of_object : ℕ → ObjRef × Object → ℕ
-of_object k p = one k (Some p.1)
+of_object k p = count_of_one k (Some p.1)
 
-abbrev placed : ℕ → ℕ × Option Object → Option (ObjRef × Object)
-placed r c = option_map (λ o. (record { region = r; cell = c.0 }, o)) c.1
+abbrev object_placed : ℕ → ℕ × Option Object → Option (ObjRef × Object)
+object_placed r c = option_map (λ o. (record { region = r; cell = c.0 }, o)) c.1
 
-cells_counted : (k r n : ℕ) (xs : List (Option Object)) → sum_by (of_object k) (filter_map (placed r) (enumerate_from n xs)) ≡ count_by (lives_as k) xs
+cells_counted : (k r n : ℕ) (xs : List (Option Object)) → sum_by (of_object k) (filter_map (object_placed r) (enumerate_from n xs)) ≡ count_by (lives_as k) xs
 cells_counted k r n [] = refl
 cells_counted k r n (None ∷ xs) =
     let rest = cells_counted k r (n + 1) xs in
-    let all = sum_by-cons (one k) None xs in
+    let all = sum_by-cons (count_of_one k) None xs in
     omega (arith, rest, all)
 cells_counted k r n (Some o ∷ xs) =
     let rest = cells_counted k r (n + 1) xs in
-    let all = sum_by-cons (one k) (Some o) xs in
-    let more = sum_by-cons (of_object k) (place r n, o) (filter_map (placed r) (enumerate_from (n + 1) xs)) in
+    let all = sum_by-cons (count_of_one k) (Some o) xs in
+    let more = sum_by-cons (of_object k) (place r n, o) (filter_map (object_placed r) (enumerate_from (n + 1) xs)) in
     omega (arith, rest, all, more)
 
 region_counted : (k r : ℕ) (x : Region) → sum_by (of_object k) (objects_of_region (r, x)) ≡ of_region k x
@@ -123,38 +123,38 @@ wanted_counted k w = dumped_counted k w.regions (flat_map objects_of_region (enu
 none_counted : (k : ℕ) (ys : List (Option Object)) → ((c : ℕ) → lives_as k (get_or ys c None) ≡ false) → count_by (lives_as k) ys ≡ 0
 none_counted k [] h = refl
 none_counted k (y ∷ ys) h =
-    let first : one k y ≡ 0 = ap (λ b. cond b 1 0) (h 0) in
+    let first : count_of_one k y ≡ 0 = ap (λ b. cond b 1 0) (h 0) in
     let rest = none_counted k ys (λ c. h (suc c)) in
-    let all : count_by (lives_as k) (y ∷ ys) ≡ one k y + count_by (lives_as k) ys = sum_by-cons (one k) y ys in
+    let all : count_by (lives_as k) (y ∷ ys) ≡ count_of_one k y + count_by (lives_as k) ys = sum_by-cons (count_of_one k) y ys in
     omega (arith, first, rest, all)
 
-split : (k : ℕ) (ys : List (Option Object)) → count_by (lives_as k) ys ≡ one k (get_or ys 0 None) + count_by (lives_as k) (drop 1 ys)
-split k [] = refl
-split k (y ∷ ys) = sum_by-cons (one k) y ys
+count_splits_first : (k : ℕ) (ys : List (Option Object)) → count_by (lives_as k) ys ≡ count_of_one k (get_or ys 0 None) + count_by (lives_as k) (drop 1 ys)
+count_splits_first k [] = refl
+count_splits_first k (y ∷ ys) = sum_by-cons (count_of_one k) y ys
 
 same_cells : (k : ℕ) (xs ys : List (Option Object)) → ((c : ℕ) → lives_as k (get_or xs c None) ≡ lives_as k (get_or ys c None)) → count_by (lives_as k) xs ≡ count_by (lives_as k) ys
 same_cells k [] ys h = sym (none_counted k ys (λ c. sym (h c)))
 same_cells k (x ∷ xs) ys h =
-    let rest = same_cells k xs (drop 1 ys) (λ c. h (suc c) ∙ ap (lives_as k) (sym (later ys c))) in
-    let first : one k x ≡ one k (get_or ys 0 None) = ap (λ b. cond b 1 0) (h 0) in
-    let all : count_by (lives_as k) (x ∷ xs) ≡ one k x + count_by (lives_as k) xs = sum_by-cons (one k) x xs in
-    let parts = split k ys in
+    let rest = same_cells k xs (drop 1 ys) (λ c. h (suc c) ∙ ap (lives_as k) (sym (element_of_rest ys c))) in
+    let first : count_of_one k x ≡ count_of_one k (get_or ys 0 None) = ap (λ b. cond b 1 0) (h 0) in
+    let all : count_by (lives_as k) (x ∷ xs) ≡ count_of_one k x + count_by (lives_as k) xs = sum_by-cons (count_of_one k) x xs in
+    let parts = count_splits_first k ys in
     omega (arith, rest, first, all, parts)
 
 -- cell i has none in the first list, and perhaps one in the second
-one_cell_more : (k : ℕ) (xs ys : List (Option Object)) (i : ℕ) → ((c : ℕ) → c ≢ i → lives_as k (get_or xs c None) ≡ lives_as k (get_or ys c None)) → lives_as k (get_or xs i None) ≡ false → count_by (lives_as k) ys ≡ count_by (lives_as k) xs + one k (get_or ys i None)
+one_cell_more : (k : ℕ) (xs ys : List (Option Object)) (i : ℕ) → ((c : ℕ) → c ≢ i → lives_as k (get_or xs c None) ≡ lives_as k (get_or ys c None)) → lives_as k (get_or xs i None) ≡ false → count_by (lives_as k) ys ≡ count_by (lives_as k) xs + count_of_one k (get_or ys i None)
 one_cell_more k xs ys zero h f =
-    let rest = same_cells k (drop 1 xs) (drop 1 ys) (λ c. ap (lives_as k) (later xs c) ∙ h (suc c) (λ e. absurd (omega (arith, e))) ∙ ap (lives_as k) (sym (later ys c))) in
-    let first : one k (get_or xs 0 None) ≡ 0 = ap (λ b. cond b 1 0) f in
-    let before = split k xs in
-    let after = split k ys in
+    let rest = same_cells k (drop 1 xs) (drop 1 ys) (λ c. ap (lives_as k) (element_of_rest xs c) ∙ h (suc c) (λ e. absurd (omega (arith, e))) ∙ ap (lives_as k) (sym (element_of_rest ys c))) in
+    let first : count_of_one k (get_or xs 0 None) ≡ 0 = ap (λ b. cond b 1 0) f in
+    let before = count_splits_first k xs in
+    let after = count_splits_first k ys in
     omega (arith, rest, first, before, after)
 one_cell_more k xs ys (suc i) h f =
-    let rest = one_cell_more k (drop 1 xs) (drop 1 ys) i (λ c n. ap (lives_as k) (later xs c) ∙ h (suc c) (λ e. n (omega (arith, e))) ∙ ap (lives_as k) (sym (later ys c))) (ap (lives_as k) (later xs i) ∙ f) in
-    let here : one k (get_or (drop 1 ys) i None) ≡ one k (get_or ys (suc i) None) = ap (one k) (later ys i) in
-    let first : one k (get_or xs 0 None) ≡ one k (get_or ys 0 None) = ap (λ b. cond b 1 0) (h 0 (λ e. absurd (omega (arith, e)))) in
-    let before = split k xs in
-    let after = split k ys in
+    let rest = one_cell_more k (drop 1 xs) (drop 1 ys) i (λ c n. ap (lives_as k) (element_of_rest xs c) ∙ h (suc c) (λ e. n (omega (arith, e))) ∙ ap (lives_as k) (sym (element_of_rest ys c))) (ap (lives_as k) (element_of_rest xs i) ∙ f) in
+    let here : count_of_one k (get_or (drop 1 ys) i None) ≡ count_of_one k (get_or ys (suc i) None) = ap (count_of_one k) (element_of_rest ys i) in
+    let first : count_of_one k (get_or xs 0 None) ≡ count_of_one k (get_or ys 0 None) = ap (λ b. cond b 1 0) (h 0 (λ e. absurd (omega (arith, e)))) in
+    let before = count_splits_first k xs in
+    let after = count_splits_first k ys in
     omega (arith, rest, here, first, before, after)
 
 same_total : (k : ℕ) (xs ys : List Region) → length xs ≡ length ys → ((r : ℕ) → count_in k xs r ≡ count_in k ys r) → total k xs ≡ total k ys
@@ -188,14 +188,14 @@ by_places k xs ys r c h = ap (lives_as k) (sym (in_cells xs r c)) ∙ h ∙ ap (
 same_places : (k : ℕ) (xs ys : List Region) → length xs ≡ length ys → ((at : ObjRef) → lives_as k (object_at xs at) ≡ lives_as k (object_at ys at)) → total k xs ≡ total k ys
 same_places k xs ys l h = same_total k xs ys l (λ r. same_cells k (cells_of (used_at xs r)) (cells_of (used_at ys r)) (λ c. by_places k xs ys r c (h (place r c))))
 
-one_place_more : (k : ℕ) (xs ys : List Region) (a : ObjRef) → length xs ≡ length ys → ((at : ObjRef) → a ≢ at → lives_as k (object_at xs at) ≡ lives_as k (object_at ys at)) → lives_as k (object_at xs a) ≡ false → total k ys ≡ total k xs + one k (object_at ys a)
+one_place_more : (k : ℕ) (xs ys : List Region) (a : ObjRef) → length xs ≡ length ys → ((at : ObjRef) → a ≢ at → lives_as k (object_at xs at) ≡ lives_as k (object_at ys at)) → lives_as k (object_at xs a) ≡ false → total k ys ≡ total k xs + count_of_one k (object_at ys a)
 one_place_more k xs ys a l h f =
     let here : a ≡ place a.region a.cell = same_place a (place a.region a.cell) refl refl in
     let none : lives_as k (get_or (cells_of (used_at xs a.region)) a.cell None) ≡ false = ap (lives_as k) (sym (ap (object_at xs) here ∙ in_cells xs a.region a.cell)) ∙ f in
     let m = one_cell_more k (cells_of (used_at xs a.region)) (cells_of (used_at ys a.region)) a.cell (λ c n. by_places k xs ys a.region c (h (place a.region c) (λ e. n (sym (ap (λ (b : ObjRef). b.cell) e))))) none in
     let all = one_region_more k xs ys a.region _ l
     (λ q n. same_cells k (cells_of (used_at xs q)) (cells_of (used_at ys q)) (λ c. by_places k xs ys q c (h (place q c) (λ e. n (sym (ap (λ (b : ObjRef). b.region) e)))))) m in
-    all ∙ ap (λ (x : Option Object). total k xs + one k x) (sym (ap (object_at ys) here ∙ in_cells ys a.region a.cell))
+    all ∙ ap (λ (x : Option Object). total k xs + count_of_one k x) (sym (ap (object_at ys) here ∙ in_cells ys a.region a.cell))
 
 -- ---- a step that ends no cycle
 
@@ -205,14 +205,14 @@ same_live true false e = absurd (omega (arith, e))
 same_live false true e = absurd (omega (arith, e))
 same_live false false e = refl
 
-alike : (k : ℕ) (x y : Option Object) → cell_state x ≡ cell_state y → ((o : Object) → x ≡ Some o → (p : Object) × (y ≡ Some p) × (p.kind ≡ o.kind) × (p.words ≡ o.words)) → lives_as k x ≡ lives_as k y
-alike k None y e h = sym (ap (lives_as k) (none_there y (sym e)))
-alike k (Some o) y e h =
+alike_cells_live_alike : (k : ℕ) (x y : Option Object) → cell_state x ≡ cell_state y → ((o : Object) → x ≡ Some o → (p : Object) × (y ≡ Some p) × (p.kind ≡ o.kind) × (p.words ≡ o.words)) → lives_as k x ≡ lives_as k y
+alike_cells_live_alike k None y e h = sym (ap (lives_as k) (none_there y (sym e)))
+alike_cells_live_alike k (Some o) y e h =
     let p = h o refl in
     ap₂ (λ (b : Bool) (q : ObjKind). b && is_of_class q k) (same_live o.live p.0.live (e ∙ ap cell_state p.1)) (sym p.2) ∙ sym (ap (lives_as k) p.1)
 
 untouched_same : (k : ℕ) (left : Undo) (before after : HeapState) (at : ObjRef) → TellsBefore left before after → touched left ≢ Some at.region → states_before left (states_after after) at ≡ cell_state (object_at after.regions at) → lives_as k (object_at before.regions at) ≡ lives_as k (object_at after.regions at)
-untouched_same k left before after at t n c = alike k (object_at before.regions at) (object_at after.regions at) (t.states at ∙ c) (λ o h. covered_alike before.regions after.regions at o (t.others at.region n) h)
+untouched_same k left before after at t n c = alike_cells_live_alike k (object_at before.regions at) (object_at after.regions at) (t.states at ∙ c) (λ o h. covered_alike before.regions after.regions at o (t.others at.region n) h)
 
 written_same : (k : ℕ) (before after : HeapState) (a at : ObjRef) (s old : ℕ) → before.regions ≡ with_word a s old after.regions → lives_as k (object_at before.regions at) ≡ lives_as k (object_at after.regions at)
 unfolding with_word
@@ -263,9 +263,9 @@ swept_same k e before after region dead at s r =
     let same = one_before e before b.0 after region dead s b.1 b.2 b.3 b.4 b.5 in
     sym (ap (λ (v : HeapState). lives_as k (object_at v.regions at)) b.5 ∙ ap (lives_as k) (swept_is region b.0 at b.3 r) ∙ live_kept k (object_at b.0.regions at) ∙ ap (λ (v : HeapState). lives_as k (object_at v.regions at)) same)
 
-lifeless : (k : ℕ) (x y : Option Object) → cell_state x ≡ cell_state y → is_live y ≡ false → lives_as k x ≡ false
-lifeless k None y e d = refl
-lifeless k (Some o) y e d = elim (cases_Bool o.live) [
+dead_cell_lives_as_none : (k : ℕ) (x y : Option Object) → cell_state x ≡ cell_state y → is_live y ≡ false → lives_as k x ≡ false
+dead_cell_lives_as_none k None y e d = refl
+dead_cell_lives_as_none k (Some o) y e d = elim (cases_Bool o.live) [
   | inl t ↦
       let p = live_of_state y (sym e ∙ ap (λ b. cond b 1 2) t) in
       absurd (true≢false (sym p.2 ∙ sym (ap is_live p.1) ∙ d))
@@ -275,9 +275,9 @@ lifeless k (Some o) y e d = elim (cases_Bool o.live) [
 reclaimed_same : (k : ℕ) (e : Event) (before after : HeapState) (region : ℕ) (storage : UsedRegion) (at : ObjRef) → IsStep e before after (Reclaim region storage) → at.region ≡ region → lives_as k (object_at before.regions at) ≡ lives_as k (object_at after.regions at)
 unfolding states_before
 reclaimed_same k e before after region storage at s r =
-    let t = told e before after (Reclaim region storage) s in
+    let t = step_tells_before e before after (Reclaim region storage) s in
     let was : cell_state (object_at before.regions at) ≡ cell_state (cell_object storage at.cell) = t.states at ∙ ap (λ b. cond b (cell_state (cell_object storage at.cell)) (states_after after at)) (eq-eqb at.region region r) in
-    lifeless k (object_at before.regions at) (cell_object storage at.cell) was (reclaim_lifeless e before after (Reclaim region storage) s region storage refl at.cell) ∙ sym (gone (object_at after.regions at) refl)
+    dead_cell_lives_as_none k (object_at before.regions at) (cell_object storage at.cell) was (reclaim_lifeless e before after (Reclaim region storage) s region storage refl at.cell) ∙ sym (gone (object_at after.regions at) refl)
   where
     gone : (x : Option Object) → object_at after.regions at ≡ x → lives_as k (object_at after.regions at) ≡ false
     gone None h = ap (lives_as k) h
@@ -286,7 +286,7 @@ reclaimed_same k e before after region storage at s r =
 made_same : (k : ℕ) (e : Event) (before after : HeapState) (a : ObjRef) (fresh : Bool) (m r old : ℕ) (at : ObjRef) → IsStep e before after (New a fresh m r old) → a ≢ at → lives_as k (object_at before.regions at) ≡ lives_as k (object_at after.regions at)
 unfolding touched
 made_same k e before after a fresh m r old at s n =
-    let t = told e before after (New a fresh m r old) s in
+    let t = step_tells_before e before after (New a fresh m r old) s in
     elim (cases_Bool (made_by (New a fresh m r old) at)) [
       | inl y ↦ ap (lives_as k) (none_there (object_at before.regions at) (t.states at ∙ new_state a at fresh m r old (states_after after) y)) ∙ sym (gone y (object_at after.regions at) refl)
       | inr y ↦ untouched_same k (New a fresh m r old) before after at t (λ q. none-some at.region q) (old_state a at fresh m r old (states_after after) y)
@@ -304,22 +304,22 @@ other_same k e before after (New a fresh m r old) at st f n = made_same k e befo
 other_same k e before after (Finish log) at st f n = absurd (true≢false f)
 other_same k e before after (Sweep region dead) at st f n = elim (cases_eq at.region region) [
   | inl r ↦ swept_same k e before after region dead at st r
-  | inr r ↦ untouched_same k (Sweep region dead) before after at (told e before after (Sweep region dead) st) (λ q. r (sym (sweep_touches_its_region region dead at.region q))) (sweep_state region dead at (states_after after) r)
+  | inr r ↦ untouched_same k (Sweep region dead) before after at (step_tells_before e before after (Sweep region dead) st) (λ q. r (sym (sweep_touches_its_region region dead at.region q))) (sweep_state region dead at (states_after after) r)
 ]
 other_same k e before after (Reclaim region storage) at st f n = elim (cases_eq at.region region) [
   | inl r ↦ reclaimed_same k e before after region storage at st r
-  | inr r ↦ untouched_same k (Reclaim region storage) before after at (told e before after (Reclaim region storage) st) (λ q. r (sym (same_Some region at.region q))) (reclaim_state region storage at (states_after after) r)
+  | inr r ↦ untouched_same k (Reclaim region storage) before after at (step_tells_before e before after (Reclaim region storage) st) (λ q. r (sym (same_Some region at.region q))) (reclaim_state region storage at (states_after after) r)
 ]
-other_same k e before after left at st f n = untouched_same k left before after at (told e before after left st) (λ q. none-some at.region q) refl
+other_same k e before after left at st f n = untouched_same k left before after at (step_tells_before e before after left st) (λ q. none-some at.region q) refl
 
 -- what stands after a step where it made an object
 abbrev made_one : ℕ → HeapState → Undo → ℕ
-made_one k after left = option_map_or (λ a. one k (object_at after.regions a)) (made_place left) 0
+made_one k after left = option_map_or (λ a. count_of_one k (object_at after.regions a)) (made_place left) 0
 
 none_before : (k : ℕ) (e : Event) (before after : HeapState) (left : Undo) (a : ObjRef) → IsStep e before after left → made_place left ≡ Some a → lives_as k (object_at before.regions a) ≡ false
 none_before k e before after (New b fresh m r old) a st h =
     let same : b ≡ a = same_Some b a h in
-    let t = told e before after (New b fresh m r old) st in
+    let t = step_tells_before e before after (New b fresh m r old) st in
     ap (lives_as k) (none_there (object_at before.regions a) (t.states a ∙ new_state b a fresh m r old (states_after after) (made b a fresh same)))
   where
     made : (b a : ObjRef) (fresh : Bool) → b ≡ a → ((b.region == a.region) && (fresh || (b.cell == a.cell))) ≡ true
@@ -333,7 +333,7 @@ count_step k e before after left st f = go (made_place left) refl
     many : length before.regions ≡ length after.regions
     many = same_regions left e before after st
 
-    go : (x : Option ObjRef) → made_place left ≡ x → total k after.regions ≡ total k before.regions + option_map_or (λ a. one k (object_at after.regions a)) x 0
+    go : (x : Option ObjRef) → made_place left ≡ x → total k after.regions ≡ total k before.regions + option_map_or (λ a. count_of_one k (object_at after.regions a)) x 0
     go None h =
         let same = same_places k before.regions after.regions many (λ at. other_same k e before after left at st f (λ q. none-some at (sym h ∙ q))) in
         omega (arith, same)
@@ -352,12 +352,12 @@ made_written left a h = absurd (none-some a h)
 made_seen : (t : Trail) (n k : ℕ) (left : Undo) (w : HeapState) (p : PinContents) → IsShownBeside w p (state_ago n t) → HasRecord t n left → cond (makes_of_class p w left k) 1 0 ≡ made_one k (state_ago n t) left
 made_seen t n k left w p h r = go (made_place left) refl
   where
-    go : (x : Option ObjRef) → made_place left ≡ x → ◌≡◌ {A = ℕ} (cond (option_map_or (λ at. is_of_class (seen_object p w at).kind k) x false) 1 0) (option_map_or (λ a. one k (object_at (state_ago n t).regions a)) x 0)
+    go : (x : Option ObjRef) → made_place left ≡ x → ◌≡◌ {A = ℕ} (cond (option_map_or (λ at. is_of_class (seen_object p w at).kind k) x false) 1 0) (option_map_or (λ a. count_of_one k (object_at (state_ago n t).regions a)) x 0)
     go None e = refl
     go (Some a) e =
         let o = written_live r.0 (state_ago (n + 1) t) (state_ago n t) left a r.1 (made_written left a e) in
         ap (λ (d : DumpedObject). cond (is_of_class d.kind k) 1 0) (seen_as (state_ago n t) w p a o.0 h o.1)
-        ∙ sym (ap (one k) o.1 ∙ ap (λ (b : Bool). cond (b && is_of_class o.0.kind k) 1 0) o.2)
+        ∙ sym (ap (count_of_one k) o.1 ∙ ap (λ (b : Bool). cond (b && is_of_class o.0.kind k) 1 0) o.2)
 
 pub one_made_less : (t : Trail) (n k : ℕ) (left : Undo) (w : HeapState) (p : PinContents) → IsShownBeside w p (state_ago n t) → HasRecord t n left → is_finish left ≡ false → many_ago t k n ≡ many_ago t k (n + 1) + cond (makes_of_class p w left k) 1 0
 one_made_less t n k left w p h r f =

@@ -135,8 +135,8 @@ rows_more ids classes marks objects i rows o a h w b =
     go before true a = subst (λ (os : List DumpedObject). AreRows ids classes os rows) (sym (append-nil before)) a
     go before false a = one_counted ids classes before rows o a w b
 
-pub room : (ids : IdSize) (classes : List Class) (marks : List Bool) (objects : List DumpedObject) (i : ℕ) (rows : List Row) (k : ℕ) → AreRows ids classes (without_marked marks (take i objects)) rows → i ≤ length objects → k < length rows → ((row_at rows k).objects ≤ i) × ((row_at rows k).bytes ≤ i * values_limit)
-room ids classes marks objects i rows k a l w =
+pub row_count_has_room : (ids : IdSize) (classes : List Class) (marks : List Bool) (objects : List DumpedObject) (i : ℕ) (rows : List Row) (k : ℕ) → AreRows ids classes (without_marked marks (take i objects)) rows → i ≤ length objects → k < length rows → ((row_at rows k).objects ≤ i) × ((row_at rows k).bytes ≤ i * values_limit)
+row_count_has_room ids classes marks objects i rows k a l w =
     let n = length (without_marked marks (take i objects)) in
     let s = All-get_or (λ r. (r.objects ≤ n) × (r.bytes ≤ n * values_limit)) rows k no_objects w a.small in
     let few = unmarked_few marks (take i objects) in
@@ -146,7 +146,7 @@ room ids classes marks objects i rows k a l w =
 -- the room of the row of one of the classes
 pub room_among : (ids : IdSize) (image : Image) (classes : List Class) (marks : List Bool) (i : ℕ) (rows : List Row) (k : ℕ) → AreRows ids image.classes (without_marked marks (take i image.objects)) rows → i ≤ length image.objects → classes ≡ image.classes → k < class_rows + length classes
     → ((row_at rows k).objects ≤ i) × ((row_at rows k).bytes ≤ i * values_limit)
-room_among ids image classes marks i rows k a l e w = room ids image.classes marks image.objects i rows k a l (omega (arith, ap length e, w, a.count))
+room_among ids image classes marks i rows k a l e w = row_count_has_room ids image.classes marks image.objects i rows k a l (omega (arith, ap length e, w, a.count))
 
 pub rows_end : (ids : IdSize) (classes : List Class) (marks : List Bool) (objects : List DumpedObject) (i : ℕ) (rows : List Row) → AreRows ids classes (without_marked marks (take i objects)) rows → i ≡ length objects → rows ≡ rows_of ids classes (without_marked marks objects)
 rows_end ids classes marks objects i rows a e =

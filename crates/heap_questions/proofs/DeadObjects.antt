@@ -18,8 +18,8 @@ use Rattle.heap_questions.specs.RegionCounts.{dead_objects}
 abbrev pub place : ℕ → ℕ → ObjRef
 place r c = record { region = r; cell = c }
 
-abbrev one : Option Object → ℕ
-one x = cond (is_dead x) 1 0
+abbrev dead_count_of_one : Option Object → ℕ
+dead_count_of_one x = cond (is_dead x) 1 0
 
 -- the dead objects of a region
 abbrev pub dead_in : List Region → ℕ → ℕ
@@ -32,30 +32,30 @@ in_cells regions r c = object_of_used regions (place r c) ∙ go (used_at region
     go None = refl
     go (Some u) = refl
 
-split : (ys : List (Option Object)) → count_by is_dead ys ≡ one (get_or ys 0 None) + count_by is_dead (drop 1 ys)
-split [] = refl
-split (y ∷ ys) = sum_by-cons one y ys
+dead_count_splits_first : (ys : List (Option Object)) → count_by is_dead ys ≡ dead_count_of_one (get_or ys 0 None) + count_by is_dead (drop 1 ys)
+dead_count_splits_first [] = refl
+dead_count_splits_first (y ∷ ys) = sum_by-cons dead_count_of_one y ys
 
-pub later : (ys : List (Option Object)) (c : ℕ) → get_or (drop 1 ys) c None ≡ get_or ys (suc c) None
-later [] c = refl
-later (y ∷ ys) c = refl
+pub element_of_rest : (ys : List (Option Object)) (c : ℕ) → get_or (drop 1 ys) c None ≡ get_or ys (suc c) None
+element_of_rest [] c = refl
+element_of_rest (y ∷ ys) c = refl
 
 none_counted : (ys : List (Option Object)) → ((c : ℕ) → is_dead (get_or ys c None) ≡ false) → count_by is_dead ys ≡ 0
 none_counted [] h = refl
 none_counted (y ∷ ys) h =
-    let first : one y ≡ 0 = ap (λ b. cond b 1 0) (h 0) in
+    let first : dead_count_of_one y ≡ 0 = ap (λ b. cond b 1 0) (h 0) in
     let rest = none_counted ys (λ c. h (suc c)) in
-    let all : count_by is_dead (y ∷ ys) ≡ one y + count_by is_dead ys = sum_by-cons one y ys in
+    let all : count_by is_dead (y ∷ ys) ≡ dead_count_of_one y + count_by is_dead ys = sum_by-cons dead_count_of_one y ys in
     omega (arith, first, rest, all)
 
 -- cells that are dead in the same numbers
 pub same_count : (xs ys : List (Option Object)) → ((c : ℕ) → is_dead (get_or xs c None) ≡ is_dead (get_or ys c None)) → count_by is_dead xs ≡ count_by is_dead ys
 same_count [] ys h = sym (none_counted ys (λ c. sym (h c)))
 same_count (x ∷ xs) ys h =
-    let rest = same_count xs (drop 1 ys) (λ c. h (suc c) ∙ ap is_dead (sym (later ys c))) in
-    let first : one x ≡ one (get_or ys 0 None) = ap (λ b. cond b 1 0) (h 0) in
-    let all : count_by is_dead (x ∷ xs) ≡ one x + count_by is_dead xs = sum_by-cons one x xs in
-    omega (arith, rest, first, all, split ys)
+    let rest = same_count xs (drop 1 ys) (λ c. h (suc c) ∙ ap is_dead (sym (element_of_rest ys c))) in
+    let first : dead_count_of_one x ≡ dead_count_of_one (get_or ys 0 None) = ap (λ b. cond b 1 0) (h 0) in
+    let all : count_by is_dead (x ∷ xs) ≡ dead_count_of_one x + count_by is_dead xs = sum_by-cons dead_count_of_one x xs in
+    omega (arith, rest, first, all, dead_count_splits_first ys)
 
 -- ---- regions
 
@@ -127,24 +127,24 @@ few_dead (x ∷ xs) h =
 abbrev dead_with : (ObjRef → Bool) → ObjRef × Object → Bool
 dead_with f p = not p.1.live && f p.0
 
-abbrev placed : ℕ → ℕ × Option Object → Option (ObjRef × Object)
-placed r c = option_map (λ o. (record { region = r; cell = c.0 }, o)) c.1
+abbrev dead_object_placed : ℕ → ℕ × Option Object → Option (ObjRef × Object)
+dead_object_placed r c = option_map (λ o. (record { region = r; cell = c.0 }, o)) c.1
 
-cells_counted : (f : ObjRef → Bool) (r n : ℕ) (xs ys : List (Option Object)) → ((c : ℕ) → (is_dead (get_or xs c None) && f (place r (n + c))) ≡ is_dead (get_or ys c None)) → count_by (dead_with f) (filter_map (placed r) (enumerate_from n xs)) ≡ count_by is_dead ys
+cells_counted : (f : ObjRef → Bool) (r n : ℕ) (xs ys : List (Option Object)) → ((c : ℕ) → (is_dead (get_or xs c None) && f (place r (n + c))) ≡ is_dead (get_or ys c None)) → count_by (dead_with f) (filter_map (dead_object_placed r) (enumerate_from n xs)) ≡ count_by is_dead ys
 cells_counted f r n [] ys h = sym (none_counted ys (λ c. sym (h c)))
 cells_counted f r n (x ∷ xs) ys h =
     go x (ap (λ k. is_dead x && f (place r k)) (let z : n ≡ n + 0 = omega arith in z) ∙ h 0)
-    (cells_counted f r (n + 1) xs (drop 1 ys) (λ c. ap (λ k. is_dead (get_or xs c None) && f (place r k)) (let z : n + 1 + c ≡ n + suc c = omega arith in z) ∙ h (suc c) ∙ ap is_dead (sym (later ys c))))
+    (cells_counted f r (n + 1) xs (drop 1 ys) (λ c. ap (λ k. is_dead (get_or xs c None) && f (place r k)) (let z : n + 1 + c ≡ n + suc c = omega arith in z) ∙ h (suc c) ∙ ap is_dead (sym (element_of_rest ys c))))
   where
-    go : (x : Option Object) → (is_dead x && f (place r n)) ≡ is_dead (get_or ys 0 None) → count_by (dead_with f) (filter_map (placed r) (enumerate_from (n + 1) xs)) ≡ count_by is_dead (drop 1 ys)
-        → count_by (dead_with f) (filter_map (placed r) (enumerate_from n (x ∷ xs))) ≡ count_by is_dead ys
+    go : (x : Option Object) → (is_dead x && f (place r n)) ≡ is_dead (get_or ys 0 None) → count_by (dead_with f) (filter_map (dead_object_placed r) (enumerate_from (n + 1) xs)) ≡ count_by is_dead (drop 1 ys)
+        → count_by (dead_with f) (filter_map (dead_object_placed r) (enumerate_from n (x ∷ xs))) ≡ count_by is_dead ys
     go None e rest =
-        let first : 0 ≡ one (get_or ys 0 None) = ap (λ b. cond b 1 0) e in
-        omega (arith, rest, first, split ys)
+        let first : 0 ≡ dead_count_of_one (get_or ys 0 None) = ap (λ b. cond b 1 0) e in
+        omega (arith, rest, first, dead_count_splits_first ys)
     go (Some o) e rest =
-        let first : cond (dead_with f (place r n, o)) 1 0 ≡ one (get_or ys 0 None) = ap (λ b. cond b 1 0) e in
-        let all = sum_by-cons (λ (p : ObjRef × Object). cond (dead_with f p) 1 0) (place r n, o) (filter_map (placed r) (enumerate_from (n + 1) xs)) in
-        omega (arith, rest, first, split ys, all)
+        let first : cond (dead_with f (place r n, o)) 1 0 ≡ dead_count_of_one (get_or ys 0 None) = ap (λ b. cond b 1 0) e in
+        let all = sum_by-cons (λ (p : ObjRef × Object). cond (dead_with f p) 1 0) (place r n, o) (filter_map (dead_object_placed r) (enumerate_from (n + 1) xs)) in
+        omega (arith, rest, first, dead_count_splits_first ys, all)
 
 region_counted : (f : ObjRef → Bool) (r : ℕ) (x y : Region) → ((c : ℕ) → (is_dead (get_or (cells_of (used_part x)) c None) && f (place r c)) ≡ is_dead (get_or (cells_of (used_part y)) c None)) → count_by (dead_with f) (objects_of_region (r, x)) ≡ of_region y
 unfolding objects_of_region

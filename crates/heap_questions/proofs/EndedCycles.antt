@@ -42,7 +42,7 @@ use Rattle.heap_questions.specs.RegionCounts.{dead_objects}
 use Rattle.heap_questions.specs.declared.past.cycles.EndedCycle.{EndedCycle}
 use Rattle.heap_questions.proofs.DeadObjects.{all_condemned, dead_alike, dead_in, gone_and_left, in_cells, no_dead, none_dead, one_differs, place, region_alike, same_count}
 use Rattle.heap_questions.proofs.Sizes.{same_regions}
-use Rattle.heap_questions.proofs.ToldObjects.{one_before, reclaimed_none, sweep_was, told}
+use Rattle.heap_questions.proofs.ToldObjects.{one_before, reclaimed_none, sweep_was, step_tells_before}
 use Rattle.heap_questions.proofs.Walk.{now_is}
 use Rattle.heap_questions.proofs.Writes.{new_state, old_state, reclaim_state, same_place, sweep_state}
 
@@ -64,8 +64,8 @@ abbrev after_states : HeapState → ObjRef → ℕ
 after_states w b = cell_state (object_at w.regions b)
 
 -- the record tells that the state of a cell is as it was
-unchanged : (left : Undo) (before after : HeapState) (at : ObjRef) → TellsBefore left before after → states_before left (after_states after) at ≡ cell_state (object_at after.regions at) → is_dead (object_at before.regions at) ≡ is_dead (object_at after.regions at)
-unchanged left before after at t e = same_state (object_at before.regions at) (object_at after.regions at) (t.states at ∙ e)
+untouched_cell_is_dead_as_before : (left : Undo) (before after : HeapState) (at : ObjRef) → TellsBefore left before after → states_before left (after_states after) at ≡ cell_state (object_at after.regions at) → is_dead (object_at before.regions at) ≡ is_dead (object_at after.regions at)
+untouched_cell_is_dead_as_before left before after at t e = same_state (object_at before.regions at) (object_at after.regions at) (t.states at ∙ e)
 
 -- ---- a finish
 
@@ -125,16 +125,16 @@ by_record (Event.Sweep region) w at fresh h = absurd (none-some (at, fresh) (sym
     go false u dead = refl
 by_record e w at fresh h = absurd (none-some (at, fresh) h)
 
-bare : (n c : ℕ) → is_dead (get_or (replicate n None) c None) ≡ false
-bare zero c = refl
-bare (suc n) zero = refl
-bare (suc n) (suc c) = bare n c
+blank_cell_is_not_dead : (n c : ℕ) → is_dead (get_or (replicate n None) c None) ≡ false
+blank_cell_is_not_dead zero c = refl
+blank_cell_is_not_dead (suc n) zero = refl
+blank_cell_is_not_dead (suc n) (suc c) = blank_cell_is_not_dead n c
 
 -- one live object in bare cells
 live_in_bare : (n i c : ℕ) (o : Object) → o.live ≡ true → is_dead (get_or (set (replicate n None) i (Some o)) c None) ≡ false
 live_in_bare zero i c o l = refl
 live_in_bare (suc n) zero zero o l = ap not l
-live_in_bare (suc n) zero (suc c) o l = bare n c
+live_in_bare (suc n) zero (suc c) o l = blank_cell_is_not_dead n c
 live_in_bare (suc n) (suc i) zero o l = refl
 live_in_bare (suc n) (suc i) (suc c) o l = live_in_bare n i c o l
 
@@ -171,7 +171,7 @@ made_alive w m r n kind at b true legal e h =
 
 new_alike : (e : Event) (before after : HeapState) (a : ObjRef) (fresh : Bool) (m r old : ℕ) (at : ObjRef) → IsStep e before after (New a fresh m r old) → is_dead (object_at before.regions at) ≡ is_dead (object_at after.regions at)
 new_alike e before after a fresh m r old at s =
-    let t = told e before after (New a fresh m r old) s in
+    let t = step_tells_before e before after (New a fresh m r old) s in
     elim (cases_Bool (made_by (New a fresh m r old) at)) [
       | inl y ↦
           let c = by_record e before a fresh (ap new_at (sym s.recorded)) in
@@ -179,7 +179,7 @@ new_alike e before after a fresh m r old at s =
           dead_by_state (object_at before.regions at)
           ∙ ap (λ n. n == 2) (t.states at ∙ new_state a at fresh m r old (after_states after) y)
           ∙ sym (ap (λ (w : HeapState). is_dead (object_at w.regions at)) (s.gave ∙ c.4) ∙ dead)
-      | inr y ↦ unchanged (New a fresh m r old) before after at t (old_state a at fresh m r old (after_states after) y)
+      | inr y ↦ untouched_cell_is_dead_as_before (New a fresh m r old) before after at t (old_state a at fresh m r old (after_states after) y)
     ]
 
 -- ---- sweeps
@@ -214,26 +214,26 @@ none_after_sweep w region e =
 -- the objects that a sweep took out are the dead ones of its region
 sweep_counts : (e : Event) (before after : HeapState) (region : ℕ) (dead : List (ℕ × Object)) → IsStep e before after (Sweep region dead) → dead_objects before.regions ≡ dead_objects after.regions + length dead
 sweep_counts e before after region dead s =
-    let t = told e before after (Sweep region dead) s in
+    let t = step_tells_before e before after (Sweep region dead) s in
     let b = sweep_before e before after (Sweep region dead) s region dead refl in
     let same = one_before e before b.0 after region dead s b.1 b.2 b.3 b.4 b.5 in
     let taken : length dead ≡ dead_in before.regions region =
     ap length b.4 ∙ ap length (dead_pairs_in region (pool_of b.0)) ∙ dead_length 0 (cells_of (used_at b.0.regions region)) ∙ ap (λ (w : HeapState). dead_in w.regions region) same in
     let none : dead_in after.regions region ≡ 0 = ap (λ (w : HeapState). dead_in w.regions region) b.5 ∙ none_after_sweep b.0 region b.3 in
     let all = one_differs before.regions after.regions region (same_regions (Sweep region dead) e before after s)
-    (λ q n. region_alike before after q (λ c. unchanged (Sweep region dead) before after (place q c) t (sweep_state region dead (place q c) (after_states after) n))) none in
+    (λ q n. region_alike before after q (λ c. untouched_cell_is_dead_as_before (Sweep region dead) before after (place q c) t (sweep_state region dead (place q c) (after_states after) n))) none in
     omega (arith, all, taken)
 
 -- a region that was taken out whole
 reclaim_counts : (e : Event) (before after : HeapState) (region : ℕ) (storage : UsedRegion) → IsStep e before after (Reclaim region storage) → dead_objects before.regions ≡ dead_objects after.regions + count_by is_dead storage.cells
 unfolding states_before
 reclaim_counts e before after region storage s =
-    let t = told e before after (Reclaim region storage) s in
+    let t = step_tells_before e before after (Reclaim region storage) s in
     let was : dead_in before.regions region ≡ count_by is_dead storage.cells =
     same_count (cells_of (used_at before.regions region)) storage.cells (λ c. ap is_dead (sym (in_cells before.regions region c)) ∙ same_state (object_at before.regions (place region c)) (cell_object storage c) (t.states (place region c) ∙ ap (λ b. cond b (cell_state (cell_object storage c)) (after_states after (place region c))) (eq-eqb region region refl))) in
     let none : dead_in after.regions region ≡ 0 = none_dead after region (λ c. gone (place region c) refl (object_at after.regions (place region c)) refl) in
     let all = one_differs before.regions after.regions region (same_regions (Reclaim region storage) e before after s)
-    (λ q n. region_alike before after q (λ c. unchanged (Reclaim region storage) before after (place q c) t (reclaim_state region storage (place q c) (after_states after) n))) none in
+    (λ q n. region_alike before after q (λ c. untouched_cell_is_dead_as_before (Reclaim region storage) before after (place q c) t (reclaim_state region storage (place q c) (after_states after) n))) none in
     omega (arith, all, was)
   where
     gone : (at : ObjRef) → at.region ≡ region → (x : Option Object) → object_at after.regions at ≡ x → is_dead (object_at after.regions at) ≡ false
@@ -245,11 +245,11 @@ reclaim_counts e before after region storage s =
 -- the number of dead objects before a step
 pub dead_step : (left : Undo) (e : Event) (before after : HeapState) → IsStep e before after left → dead_objects before.regions ≡ dead_before left (dead_objects after.regions)
 unfolding states_before
-dead_step (Finish log) e before after s = no_dead before.regions (λ r. none_dead before r (λ c. none_was_dead log before after (place r c) (told e before after (Finish log) s)))
+dead_step (Finish log) e before after s = no_dead before.regions (λ r. none_dead before r (λ c. none_was_dead log before after (place r c) (step_tells_before e before after (Finish log) s)))
 dead_step (Sweep region dead) e before after s = sweep_counts e before after region dead s
 dead_step (Reclaim region storage) e before after s = reclaim_counts e before after region storage s
 dead_step (New a fresh m r old) e before after s = dead_alike before after (same_regions (New a fresh m r old) e before after s) (λ at. new_alike e before after a fresh m r old at s)
-dead_step left e before after s = dead_alike before after (same_regions left e before after s) (λ at. unchanged left before after at (told e before after left s) refl)
+dead_step left e before after s = dead_alike before after (same_regions left e before after s) (λ at. untouched_cell_is_dead_as_before left before after at (step_tells_before e before after left s) refl)
 
 -- whether a record is that of a finish
 abbrev pub is_finish : Undo → Bool
@@ -263,7 +263,7 @@ dead_stays (Finish log) e before after at s n d = absurd (false≢true (sym n))
 dead_stays (Sweep region dead) e before after at s n d =
     elim (cases_eq at.region region) [
       | inl r ↦ go (object_at after.regions at) refl r d
-      | inr r ↦ unchanged (Sweep region dead) before after at (told e before after (Sweep region dead) s) (sweep_state region dead at (after_states after) r) ∙ d
+      | inr r ↦ untouched_cell_is_dead_as_before (Sweep region dead) before after at (step_tells_before e before after (Sweep region dead) s) (sweep_state region dead at (after_states after) r) ∙ d
     ]
   where
     go : (x : Option Object) → object_at after.regions at ≡ x → at.region ≡ region → is_dead (object_at after.regions at) ≡ true → is_dead (object_at before.regions at) ≡ true
@@ -272,19 +272,19 @@ dead_stays (Sweep region dead) e before after at s n d =
 dead_stays (Reclaim region storage) e before after at s n d =
     elim (cases_eq at.region region) [
       | inl r ↦ go (object_at after.regions at) refl r d
-      | inr r ↦ unchanged (Reclaim region storage) before after at (told e before after (Reclaim region storage) s) (reclaim_state region storage at (after_states after) r) ∙ d
+      | inr r ↦ untouched_cell_is_dead_as_before (Reclaim region storage) before after at (step_tells_before e before after (Reclaim region storage) s) (reclaim_state region storage at (after_states after) r) ∙ d
     ]
   where
     go : (x : Option Object) → object_at after.regions at ≡ x → at.region ≡ region → is_dead (object_at after.regions at) ≡ true → is_dead (object_at before.regions at) ≡ true
     go None h r d = absurd (false≢true (sym (ap is_dead h) ∙ d))
     go (Some o) h r d = absurd (reclaimed_none e before after region storage at o s r h)
 dead_stays (New a fresh m r old) e before after at s n d = new_alike e before after a fresh m r old at s ∙ d
-dead_stays left e before after at s n d = unchanged left before after at (told e before after left s) refl ∙ d
+dead_stays left e before after at s n d = untouched_cell_is_dead_as_before left before after at (step_tells_before e before after left s) refl ∙ d
 
 -- ---- the phase
 
-clash : {A : Type 0} → Idle ≡ Marking → A
-clash e = absurd (no e)
+idle_is_not_marking : {A : Type 0} → Idle ≡ Marking → A
+idle_is_not_marking e = absurd (no e)
   where
     no : Idle ≡ Marking → ⊥
     no e = cc
@@ -299,13 +299,13 @@ finish_ends e before after log s = (
 cycle_runs_on : (left : Undo) (v : HeapState) → is_finish left ≡ false → (undone left v).phase ≡ Marking → v.phase ≡ Marking
 unfolding undone unsnapped unmarked undrained unshaded
 cycle_runs_on (Finish log) v n e = absurd (false≢true (sym n))
-cycle_runs_on Snap v n e = clash e
+cycle_runs_on Snap v n e = idle_is_not_marking e
 cycle_runs_on left v n e = e
 
 pub others_end_none : (left : Undo) (e : Event) (before after : HeapState) → IsStep e before after left → is_finish left ≡ false → before.phase ≡ Marking → after.phase ≡ Idle → ⊥
 others_end_none left e before after s n running idle =
     let back : undone left after ≡ before = ap₂ undone s.recorded s.gave ∙ undo_restores e before s.legal s.accepted in
-    clash (sym idle ∙ cycle_runs_on left after n (ap (λ (w : HeapState). w.phase) back ∙ running))
+    idle_is_not_marking (sym idle ∙ cycle_runs_on left after n (ap (λ (w : HeapState). w.phase) back ∙ running))
 
 -- ---- step by step
 
@@ -345,12 +345,12 @@ reverse_more cycles (Some c) = reverse-append cycles (c ∷ [])
 one_more : (t : Trail) (n : ℕ) (cycles more : List EndedCycle) (first : Option EndedCycle) → AreLastCycles t n (reverse cycles) → IsCycleAgo t n first → more ≡ cycles ++ before_cycles first [] → AreLastCycles t (n + 1) (reverse more)
 one_more t n cycles more first told a e = subst (λ m. AreLastCycles t m (reverse more)) (sym (add-one n)) (first, reverse cycles, a, told, ap reverse e ∙ reverse_more cycles first)
 
-ended : (t : Trail) (n dead left : ℕ) (log : List ℕ) (cycles more : List EndedCycle) → AreCyclesTo t n dead left cycles → HasRecord t n (Finish log) → more ≡ cycles ++ before_cycles (cycle_by (Finish log) (t.place - n) dead left) [] → AreCyclesTo t (n + 1) 0 0 more
-ended t n dead left log cycles more a r e =
+finish_adds_cycle : (t : Trail) (n dead left : ℕ) (log : List ℕ) (cycles more : List EndedCycle) → AreCyclesTo t n dead left cycles → HasRecord t n (Finish log) → more ≡ cycles ++ before_cycles (cycle_by (Finish log) (t.place - n) dead left) [] → AreCyclesTo t (n + 1) 0 0 more
+finish_adds_cycle t n dead left log cycles more a r e =
     let s = r.1 in
     let before = state_ago (n + 1) t in
     let after = state_ago n t in
-    let tells = told r.0 before after (Finish log) s in
+    let tells = step_tells_before r.0 before after (Finish log) s in
     let none : 0 ≡ dead_objects before.regions = sym (dead_step (Finish log) r.0 before after s) in
     let ends : EndsCycle t n = finish_ends r.0 before after log s in
     let all = gone_and_left (state_ago a.last t) after a.same a.stays in
@@ -397,5 +397,5 @@ went_on t n dead left u cycles more a r other e =
     }
 
 pub one_step_more : (t : Trail) (n dead left : ℕ) (u : Undo) (cycles more : List EndedCycle) → AreCyclesTo t n dead left cycles → HasRecord t n u → more ≡ cycles ++ before_cycles (cycle_by u (t.place - n) dead left) [] → AreCyclesTo t (n + 1) (dead_before u dead) (left_before u left) more
-one_step_more t n dead left (Finish log) cycles more a r e = ended t n dead left log cycles more a r e
+one_step_more t n dead left (Finish log) cycles more a r e = finish_adds_cycle t n dead left log cycles more a r e
 one_step_more t n dead left u cycles more a r e = went_on t n dead left u cycles more a r refl e

@@ -55,7 +55,7 @@ use Rattle.heap_questions.proofs.DeadObjects.{in_cells, place}
 use Rattle.heap_questions.proofs.EndedCycles.{by_record, new_at}
 use Rattle.heap_questions.proofs.HeldValues.{mapped_item_has_its_source, mapped_item_is_contained}
 use Rattle.heap_questions.proofs.ImagePaths.{IsLiveOne, filter_live, live_listed}
-use Rattle.heap_questions.proofs.ToldObjects.{covered_alike, reclaimed_none, sweep_was, told}
+use Rattle.heap_questions.proofs.ToldObjects.{covered_alike, reclaimed_none, sweep_was, step_tells_before}
 use Rattle.heap_questions.proofs.WrittenSlots.{seen_beside, seen_or, shown_beside}
 use Rattle.heap_questions.proofs.Writes.{old_state, reclaim_state, same_place, sweep_state}
 
@@ -115,15 +115,15 @@ elsewhere_was before after a at s old o e n h l =
     (o, ap (λ (rs : List Region). object_at rs at) e ∙ object_elsewhere a at f after.regions n ∙ h, l, refl, refl)
 
 -- a fresh region has one object
-bare : (n c : ℕ) → ◌≡◌ {A = Option Object} (get_or (replicate n None) c None) None
-bare zero c = refl
-bare (suc n) zero = refl
-bare (suc n) (suc c) = bare n c
+blank_cell_is_none : (n c : ℕ) → ◌≡◌ {A = Option Object} (get_or (replicate n None) c None) None
+blank_cell_is_none zero c = refl
+blank_cell_is_none (suc n) zero = refl
+blank_cell_is_none (suc n) (suc c) = blank_cell_is_none n c
 
 bare_but_one : (n i c : ℕ) (o : Object) → c ≢ i → get_or (set (replicate n None) i (Some o)) c None ≡ None
 bare_but_one zero i c o d = refl
 bare_but_one (suc n) zero zero o d = absurd (d refl)
-bare_but_one (suc n) zero (suc c) o d = bare n c
+bare_but_one (suc n) zero (suc c) o d = blank_cell_is_none n c
 bare_but_one (suc n) (suc i) zero o d = refl
 bare_but_one (suc n) (suc i) (suc c) o d = bare_but_one n i c o (λ e. d (ap suc e))
 
@@ -169,19 +169,19 @@ was_there e before after (Put a s old) at o st n h l = elsewhere_was before afte
 was_there e before after (Store a s old logged) at o st n h l = elsewhere_was before after a at s old o (sym (ap (λ (w : HeapState). w.regions) (store_is e before after (Store a s old logged) st a s old logged refl))) (λ q. n (ap Some q)) h l
 was_there e before after (New a fresh m r old) at o st n h l = elim (cases_Bool (made_by (New a fresh m r old) at)) [
   | inl y ↦ absurd (one_made e before after a fresh m r old at o st y (λ q. n (ap Some q)) h)
-  | inr y ↦ untouched_was (New a fresh m r old) before after at o (told e before after (New a fresh m r old) st) (λ q. none-some at.region q) (old_state a at fresh m r old (states_after after) y ∙ state_of_live _ o h l) h
+  | inr y ↦ untouched_was (New a fresh m r old) before after at o (step_tells_before e before after (New a fresh m r old) st) (λ q. none-some at.region q) (old_state a at fresh m r old (states_after after) y ∙ state_of_live _ o h l) h
 ]
 was_there e before after (Finish log) at o st n h l =
-    untouched_was (Finish log) before after at o (told e before after (Finish log) st) (λ q. none-some at.region q) (ap (λ (k : ℕ). cond (k == 0) 0 1) (state_of_live _ o h l)) h
+    untouched_was (Finish log) before after at o (step_tells_before e before after (Finish log) st) (λ q. none-some at.region q) (ap (λ (k : ℕ). cond (k == 0) 0 1) (state_of_live _ o h l)) h
 was_there e before after (Sweep region dead) at o st n h l = elim (cases_eq at.region region) [
   | inl r ↦ (o, sweep_was e before after region dead at o st r h, l, refl, refl)
-  | inr r ↦ untouched_was (Sweep region dead) before after at o (told e before after (Sweep region dead) st) (λ q. r (sym (sweep_touches_its_region region dead at.region q))) (sweep_state region dead at (states_after after) r ∙ state_of_live _ o h l) h
+  | inr r ↦ untouched_was (Sweep region dead) before after at o (step_tells_before e before after (Sweep region dead) st) (λ q. r (sym (sweep_touches_its_region region dead at.region q))) (sweep_state region dead at (states_after after) r ∙ state_of_live _ o h l) h
 ]
 was_there e before after (Reclaim region storage) at o st n h l = elim (cases_eq at.region region) [
   | inl r ↦ absurd (reclaimed_none e before after region storage at o st r h)
-  | inr r ↦ untouched_was (Reclaim region storage) before after at o (told e before after (Reclaim region storage) st) (λ q. r (sym (same_Some region at.region q))) (reclaim_state region storage at (states_after after) r ∙ state_of_live _ o h l) h
+  | inr r ↦ untouched_was (Reclaim region storage) before after at o (step_tells_before e before after (Reclaim region storage) st) (λ q. r (sym (same_Some region at.region q))) (reclaim_state region storage at (states_after after) r ∙ state_of_live _ o h l) h
 ]
-was_there e before after left at o st n h l = untouched_was left before after at o (told e before after left st) (λ q. none-some at.region q) (state_of_live _ o h l) h
+was_there e before after left at o st n h l = untouched_was left before after at o (step_tells_before e before after left st) (λ q. none-some at.region q) (state_of_live _ o h l) h
 
 -- ---- an object that a step wrote or created
 
@@ -228,10 +228,10 @@ pub written_live : (e : Event) (before after : HeapState) (left : Undo) (at : Ob
 unfolding states_before new_object
 written_live e before after (Put a s old) at st h =
     let was = live_before_write e before at st.legal st.accepted (ap put_at (sym st.recorded) ∙ h) in
-    live_of_state (object_at after.regions at) (sym ((told e before after (Put a s old) st).states at) ∙ was)
+    live_of_state (object_at after.regions at) (sym ((step_tells_before e before after (Put a s old) st).states at) ∙ was)
 written_live e before after (Store a s old logged) at st h =
     let was = live_before_write e before at st.legal st.accepted (ap put_at (sym st.recorded) ∙ h) in
-    live_of_state (object_at after.regions at) (sym ((told e before after (Store a s old logged) st).states at) ∙ was)
+    live_of_state (object_at after.regions at) (sym ((step_tells_before e before after (Store a s old logged) st).states at) ∙ was)
 written_live e before after (New a fresh m r old) at st h =
     let c = by_record e before a fresh (ap new_at (sym st.recorded)) in
     let here = new_object_stands_at_place before c.0 c.1 c.2 c.3 a fresh st.legal c.5 in

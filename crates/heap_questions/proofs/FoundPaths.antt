@@ -19,7 +19,7 @@ use Rattle.heap_questions.proofs.Looking.{as_many_entries, entry_there, found_of
 use Rattle.heap_questions.proofs.NodePlaces.{found_within, node_of_object, one_id, place_found}
 use Rattle.heap_questions.proofs.PathOrder.{found_first}
 use Rattle.heap_questions.proofs.Reaching.{leads_more}
-use Rattle.heap_questions.proofs.Searching.{are_seen, searched, searched_to}
+use Rattle.heap_questions.proofs.Searching.{are_seen, search_ends, searched_to}
 use Rattle.heap_questions.proofs.TracedPaths.{path_found}
 
 -- ---- the way back
@@ -78,7 +78,7 @@ all_seen image places nodes seen entries head n s (inr e) = absurd (true≢false
 all_seen image places nodes seen entries head n s (inl l) =
     record {
       queue = s.queue;
-      searched = searched image places nodes seen s.queue head n s.search (omega (arith, l, as_many_entries entries s.queue s.kept)) s.roots;
+      searched = search_ends image places nodes seen s.queue head n s.search (omega (arith, l, as_many_entries entries s.queue s.kept)) s.roots;
       marked = are_seen image nodes seen s.queue head s.search;
     }
 

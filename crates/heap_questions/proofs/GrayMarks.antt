@@ -31,8 +31,8 @@ cell_there [] c i = absurd (false≢true i)
 cell_there (x ∷ xs) zero i = omega arith
 cell_there (x ∷ xs) (suc c) i = let l = cell_there xs c i in omega (arith, l)
 
-pub placed : (s : RegionPool) (at : ObjRef) → IsRegionPool s → IsSome (object_at s.regions at) → IsPlaced s.regions at
-placed s at legal i = go (used_at s.regions at.region) refl (used_by_object s.regions at i)
+pub some_object_is_placed : (s : RegionPool) (at : ObjRef) → IsRegionPool s → IsSome (object_at s.regions at) → IsPlaced s.regions at
+some_object_is_placed s at legal i = go (used_at s.regions at.region) refl (used_by_object s.regions at i)
   where
     go : (x : Option UsedRegion) → used_at s.regions at.region ≡ x → IsSome x → IsPlaced s.regions at
     go None e h = absurd (false≢true h)
@@ -95,7 +95,7 @@ no_marks regions n marks e at o h = ap (λ (m : List Bool). slice_index_or m (ce
 pub marked_none : (s : RegionPool) (ids : List ℕ) (i x : ℕ) (marks : List Bool) → IsRegionPool s → i < length ids → x ≡ get_or ids i x → object_of s.regions x ≡ None → AreMarksOf s.regions (take i ids) marks → AreMarksOf s.regions (take (i + 1) ids) marks
 unfolding object_of
 marked_none s ids i x marks legal l e none before at o h =
-    let back = (placed s at legal (there_is s.regions at o h)).back in
+    let back = (some_object_is_placed s at legal (there_is s.regions at o h)).back in
     let n : x ≢ id_of s.regions at = λ p. none-some o (sym none ∙ ap (λ (y : ℕ). option_and_then (object_at s.regions) (ref_of s.regions y)) p ∙ ap (option_and_then (object_at s.regions)) back ∙ h) in
     before at o h ∙ sym (is_other s.regions at ids i x l e n)
 
@@ -103,8 +103,8 @@ marked_none s ids i x marks legal l e none before at o h =
 pub marked_one : (s : RegionPool) (ids : List ℕ) (i x : ℕ) (marks new : List Bool) (there : ObjRef) (k : ℕ) → IsRegionPool s → i < length ids → x ≡ get_or ids i x → ref_of s.regions x ≡ Some there → IsSome (object_at s.regions there) → k ≡ cell_number there → k < length marks
     → new ≡ slice_set marks k true → AreMarksOf s.regions (take i ids) marks → AreMarksOf s.regions (take (i + 1) ids) new
 marked_one s ids i x marks new there k legal l e names some number within set before at o h =
-    let p = placed s at legal (there_is s.regions at o h) in
-    let q = placed s there legal some in
+    let p = some_object_is_placed s at legal (there_is s.regions at o h) in
+    let q = some_object_is_placed s there legal some in
     let told : slice_index_or new (cell_number at) false ≡ slice_index_or (slice_set marks k true) (cell_number at) false = ap (λ (m : List Bool). slice_index_or m (cell_number at) false) set in
     elim (cases_eq (cell_number at) k) [
       | inl same ↦
@@ -124,7 +124,7 @@ marks_reversed regions ids others marks e before at o h =
 
 -- there is room for the mark of an object's cell
 pub mark_within : (s : RegionPool) (at : ObjRef) (n k : ℕ) → IsRegionPool s → IsSome (object_at s.regions at) → n ≡ length s.regions * 256 → k ≡ cell_number at → k < n
-mark_within s at n k legal some e number = let p = placed s at legal some in omega (arith, p.region, p.cell, e, number)
+mark_within s at n k legal some e number = let p = some_object_is_placed s at legal some in omega (arith, p.region, p.cell, e, number)
 
 -- the mark of an object's cell
 pub mark_told : (w v : HeapState) (marks : List Bool) (at : ObjRef) (k : ℕ) → AreMarksOf w.regions w.gray marks → w ≡ v → k ≡ cell_number at → IsSome (object_at v.regions at) → slice_index_or marks k false ≡ is_gray v at

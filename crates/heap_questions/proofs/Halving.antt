@@ -45,20 +45,20 @@ rising_all nodes n l h i j a b le p q = h i j a b le (omega (arith, l, slice_get
 
 -- ---- halves
 
-before : (nodes : List Node) (first x k : ℕ) (d : Node) → AreSmallerBefore nodes first x → first ≤ length nodes → k < first → ((get_or nodes k d).id == x) ≡ false
-before nodes first x k d b l lt =
+node_before_bound_differs : (nodes : List Node) (first x k : ℕ) (d : Node) → AreSmallerBefore nodes first x → first ≤ length nodes → k < first → ((get_or nodes k d).id == x) ≡ false
+node_before_bound_differs nodes first x k d b l lt =
     let h = b k (get_or nodes k d) lt (slice_get-get_or nodes k d (omega (arith, l, lt))) in
     ne_eqb _ x (λ e. absurd (omega (arith, h, e)))
 
 pub found_by_halves : (nodes : List Node) (first x : ℕ) (d : Node) → AreSmallerBefore nodes first x → first < length nodes → (get_or nodes first d).id ≡ x → Some first ≡ node_with nodes x
 found_by_halves nodes first x d b l e =
-    let at : position_or_len (λ n. n.id == x) nodes ≡ first = position_or_len_is (λ n. n.id == x) nodes first d (omega (arith, l)) (λ k h. before nodes first x k d b (omega (arith, l)) h) (λ h. eq-eqb _ x e) in
+    let at : position_or_len (λ n. n.id == x) nodes ≡ first = position_or_len_is (λ n. n.id == x) nodes first d (omega (arith, l)) (λ k h. node_before_bound_differs nodes first x k d b (omega (arith, l)) h) (λ h. eq-eqb _ x e) in
     sym (place_found (λ n. n.id == x) nodes (omega (arith, at, l)) ∙ ap Some at)
 
 pub none_by_halves : (nodes : List Node) (first x : ℕ) (d : Node) → AreSmallerBefore nodes first x → AreFrom nodes first x → first ≤ length nodes → (first < length nodes → (get_or nodes first d).id ≢ x) → AreRising nodes → None ≡ node_with nodes x
 none_by_halves nodes first x d b f l ne r =
     let at : position_or_len (λ n. n.id == x) nodes ≡ length nodes = position_or_len_is (λ n. n.id == x) nodes (length nodes) d (omega arith) (λ k h. elim (cases_lt k first) [
-      | inl lt ↦ before nodes first x k d b l lt
+      | inl lt ↦ node_before_bound_differs nodes first x k d b l lt
       | inr ge ↦
           let here = slice_get-get_or nodes first d (omega (arith, h, ge)) in
           let w = r first k (get_or nodes first d) (get_or nodes k d) ge here (slice_get-get_or nodes k d h) in

@@ -36,8 +36,8 @@ use Rattle.heap_questions.proofs.NamedObjects.{element_kind}
 -- ---- what an image shows is there
 
 -- an object as a dump shows it
-abbrev shown : List Region → ObjRef × Object → DumpedObject
-shown regions p = record { id = id_of regions p.0; kind = p.1.kind; words = p.1.words }
+abbrev object_as_shown : List Region → ObjRef × Object → DumpedObject
+object_as_shown regions p = record { id = id_of regions p.0; kind = p.1.kind; words = p.1.words }
 
 abbrev pub IsLiveOne : ObjRef × Object → Type 0
 IsLiveOne p = p.1.live ≡ true
@@ -52,14 +52,14 @@ filter_live (x ∷ xs) = go x.1.live refl (filter_live xs)
 
 -- the first of these that has an id
 abbrev IsFirst : List Region → ℕ → DumpedObject → Type 0
-IsFirst regions x d = (p : ObjRef × Object) × Stands regions p × IsLiveOne p × (shown regions p ≡ d) × (id_of regions p.0 ≡ x)
+IsFirst regions x d = (p : ObjRef × Object) × Stands regions p × IsLiveOne p × (object_as_shown regions p ≡ d) × (id_of regions p.0 ≡ x)
 
-first_is : (regions : List Region) (x : ℕ) (xs : List (ObjRef × Object)) (d : DumpedObject) → All (Stands regions) xs → All IsLiveOne xs → find (λ o. o.id == x) (map (shown regions) xs) ≡ Some d → IsFirst regions x d
+first_is : (regions : List Region) (x : ℕ) (xs : List (ObjRef × Object)) (d : DumpedObject) → All (Stands regions) xs → All IsLiveOne xs → find (λ o. o.id == x) (map (object_as_shown regions) xs) ≡ Some d → IsFirst regions x d
 first_is regions x [] d s l e = absurd (none-some d e)
 first_is regions x (p ∷ ps) d s l e = go (id_of regions p.0 == x) refl e (first_is regions x ps d (All-tail (Stands regions) p ps s) (All-tail IsLiveOne p ps l))
   where
-    go : (b : Bool) → (id_of regions p.0 == x) ≡ b → cond b (Some (shown regions p)) (find (λ o. o.id == x) (map (shown regions) ps)) ≡ Some d → (find (λ o. o.id == x) (map (shown regions) ps) ≡ Some d → IsFirst regions x d) → IsFirst regions x d
-    go true h f rest = (p, All-head (Stands regions) p ps s, All-head IsLiveOne p ps l, same_Some (shown regions p) d f, eqb-true (id_of regions p.0) x h)
+    go : (b : Bool) → (id_of regions p.0 == x) ≡ b → cond b (Some (object_as_shown regions p)) (find (λ o. o.id == x) (map (object_as_shown regions) ps)) ≡ Some d → (find (λ o. o.id == x) (map (object_as_shown regions) ps) ≡ Some d → IsFirst regions x d) → IsFirst regions x d
+    go true h f rest = (p, All-head (Stands regions) p ps s, All-head IsLiveOne p ps l, same_Some (object_as_shown regions p) d f, eqb-true (id_of regions p.0) x h)
     go false h f rest = rest f
 
 -- the id of an object leads back to its place
@@ -146,11 +146,11 @@ filter_there (x ∷ xs) q c l = go x.1.live refl (member_is_head_or_later x xs q
     go false e (inl h) rest = absurd (true≢false (sym l ∙ ap (λ (p : ObjRef × Object). p.1.live) h ∙ e))
     go false e (inr d) rest = rest d
 
-find_there : (regions : List Region) (x : ℕ) (xs : List (ObjRef × Object)) (q : ObjRef × Object) → Contains xs q → id_of regions q.0 ≡ x → IsSome (find (λ o. o.id == x) (map (shown regions) xs))
+find_there : (regions : List Region) (x : ℕ) (xs : List (ObjRef × Object)) (q : ObjRef × Object) → Contains xs q → id_of regions q.0 ≡ x → IsSome (find (λ o. o.id == x) (map (object_as_shown regions) xs))
 find_there regions x [] q c e = absurd (empty_list_has_no_member q c)
 find_there regions x (p ∷ ps) q c e = go (id_of regions p.0 == x) refl (member_is_head_or_later p ps q c) (λ d. find_there regions x ps q d e)
   where
-    go : (b : Bool) → (id_of regions p.0 == x) ≡ b → (q ≡ p) ⊎ Contains ps q → (Contains ps q → IsSome (find (λ o. o.id == x) (map (shown regions) ps))) → IsSome (cond b (Some (shown regions p)) (find (λ o. o.id == x) (map (shown regions) ps)))
+    go : (b : Bool) → (id_of regions p.0 == x) ≡ b → (q ≡ p) ⊎ Contains ps q → (Contains ps q → IsSome (find (λ o. o.id == x) (map (object_as_shown regions) ps))) → IsSome (cond b (Some (object_as_shown regions p)) (find (λ o. o.id == x) (map (object_as_shown regions) ps)))
     go true h m rest = refl
     go false h (inl m) rest = absurd (true≢false (sym (eq-eqb (id_of regions p.0) x (ap (λ (z : ObjRef × Object). id_of regions z.0) (sym m) ∙ e)) ∙ h))
     go false h (inr d) rest = rest d

@@ -14,7 +14,7 @@ use Rattle.heap_questions.specs.declared.rows.Row.{Row}
 use Rattle.heap_questions.proofs.Counting.{unmarked_is_filter}
 use Rattle.heap_questions.proofs.NodePlaces.{node_of_object, object_found}
 use Rattle.heap_questions.proofs.Reaching.{of_ids}
-use Rattle.heap_questions.proofs.Retained.{and_true, both, not_twice, reachable_is}
+use Rattle.heap_questions.proofs.Retained.{and_true, both_of_and, not_twice, reachable_is}
 
 -- no node of an image has an id exactly if no object has it
 no_node : (image : Image) (places : List ObjRef) (nodes : List Node) (x : ℕ) → AreNodes image places nodes → (is_none (node_with nodes x) ≡ true) ↔ (¬ HasId image x)
@@ -27,15 +27,15 @@ no_node image places nodes x n = (λ e h. there e (node_of_object image places n
     go None e h = refl
     go (Some j) e h = absurd (h (object_found image places nodes x j n e))
 
-tells : (older newer : Image) (places : List ObjRef) (before nodes : List Node) (seen : List Bool) (queue : List Found) (x : ℕ) → AreNodes older places before → IsSearched newer queue → AreSeen nodes seen queue
+search_tells_kept : (older newer : Image) (places : List ObjRef) (before nodes : List Node) (seen : List Bool) (queue : List Found) (x : ℕ) → AreNodes older places before → IsSearched newer queue → AreSeen nodes seen queue
     → (is_kept before nodes seen x ≡ true) ↔ IsKeptSince older newer x
-tells older newer places before nodes seen queue x n s a =
+search_tells_kept older newer places before nodes seen queue x n s a =
     let r = reachable_is newer nodes seen queue x s a in
     let h = no_node older places before x n in
     let f = is_none (node_with before x) in
     let g = is_reached nodes seen x in (
       λ t.
-          let p = both f g t in
+          let p = both_of_and f g t in
           (h.0 p.0, r.0 p.1),
       λ k. and_true f g (h.1 k.0) (r.1 k.1),
     )
@@ -49,7 +49,7 @@ are_kept ids older newer older_places places before nodes seen queue marks rows 
     let same : marks ≡ map f (map (λ o. o.id) newer.objects) = m ∙ of_ids f nodes ∙ ap (map f) n.ids in (
       t,
       λ o c.
-          let w = tells older newer older_places before nodes seen queue o.id b s a in
+          let w = search_tells_kept older newer older_places before nodes seen queue o.id b s a in
           (λ h. w.0 (sym (not_twice (is_kept before nodes seen o.id)) ∙ h), λ h. not_twice (is_kept before nodes seen o.id) ∙ w.1 h),
       e ∙ ap (λ bs. rows_of ids newer.classes (without_marked bs newer.objects)) same ∙ ap (rows_of ids newer.classes) (unmarked_is_filter f newer.objects),
     )

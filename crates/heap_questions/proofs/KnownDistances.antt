@@ -110,15 +110,15 @@ least_all d classes o n r all i = record {
   met = i.met;
 }
 
-alike : (d : ℕ → ℕ) (f g : ℕ → Option ℕ) (r : ℕ) → ((s : ℕ) → g s ≡ f s) → IsLeastOf d f r → IsLeastOf d g r
-alike d f g r same i = record {
+least_of_alike : (d : ℕ → ℕ) (f g : ℕ → Option ℕ) (r : ℕ) → ((s : ℕ) → g s ≡ f s) → IsLeastOf d f r → IsLeastOf d g r
+least_of_alike d f g r same i = record {
   small = i.small;
   least = λ s. let at : distance_of d (g s) ≡ distance_of d (f s) = ap (distance_of d) (same s) in let least = i.least s in omega (arith, at, least);
   met = λ l. let m = i.met l in (m.0, m.1 ∙ ap (distance_of d) (sym (same m.0)));
 }
 
 pub least_named : (d : ℕ → ℕ) (image : Image) (classes : List Class) (x : ℕ) (o : DumpedObject) (r : ℕ) → object_with image x ≡ Some o → classes ≡ image.classes → IsLeastOf d (slot_names classes o) r → IsLeastOf d (named image x) r
-least_named d image classes x o r e same i = alike d (slot_names classes o) (named image x) r (λ s. named_is image x s o e ∙ ap (λ cs. slot_names cs o s) (sym same)) i
+least_named d image classes x o r e same i = least_of_alike d (slot_names classes o) (named image x) r (λ s. named_is image x s o e ∙ ap (λ cs. slot_names cs o s) (sym same)) i
 
 -- what names nothing if there is no object
 pub none_named : (image : Image) (x s : ℕ) → object_with image x ≡ None → named image x s ≡ None

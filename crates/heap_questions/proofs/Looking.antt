@@ -9,7 +9,7 @@ use Rattle.heap_class.specs.Classes.{Class}
 use Rattle.heap_class.specs.Limits.{large_array_limit}
 use Rattle.heap_class.specs.declared.ObjKind.{ObjKind}
 use Rattle.hprof_text.specs.Image.{Image, DumpedObject, IsDumpable, IsKnown}
-use Rattle.hprof_text.proofs.ViewedObjects.{here}
+use Rattle.hprof_text.proofs.ViewedObjects.{object_viewed_at_place}
 use Rattle.hprof_text.proofs.Loops.{item_of_list_within}
 use Rattle.heap_questions.specs.Graph.{HasId, slot_refers, named, object_with, slot_names}
 use Rattle.heap_questions.specs.Search.{AreEntries, AreNodes, Earlier, Found, HasAllRoots, HasChildren, IsEnteredIn, IsFound, IsNear, IsOfferedTo, IsOrdered, IsRooting, IsSearching, IsWithin, Register, Slot, Via, entry_of, from_via, node_with}
@@ -17,7 +17,7 @@ use Rattle.heap_questions.specs.declared.nodes.Node.{Node}
 use Rattle.heap_questions.specs.declared.search.Entry.{Entry}
 use Rattle.heap_questions.proofs.NodePlaces.{node_place, node_within, object_of_node}
 use Rattle.heap_questions.proofs.SearchOrder.{next_register, next_slot, ordered_more, ordered_next, registers_looked_at, slots_looked_at}
-use Rattle.heap_questions.proofs.Searching.{IsKept, kept, stepped}
+use Rattle.heap_questions.proofs.Searching.{IsKept, look_keeps_search, search_one_step_further}
 
 -- ---- the slots of an object
 
@@ -49,8 +49,8 @@ pub record StandsFor (image : Image) (places : List ObjRef) (nodes : List Node) 
   pub placed : slice_get places f.node ≡ Some at
   pub object : object_with image f.id ≡ slice_get image.objects f.node
 
-pub stands : (image : Image) (places : List ObjRef) (nodes : List Node) (f : Found) (at : ObjRef) → AreNodes image places nodes → node_with nodes f.id ≡ Some f.node → ((n : Node) → slice_get nodes f.node ≡ Some n → at ≡ n.at) → StandsFor image places nodes f at
-stands image places nodes f at n e p =
+pub node_stands_for_object : (image : Image) (places : List ObjRef) (nodes : List Node) (f : Found) (at : ObjRef) → AreNodes image places nodes → node_with nodes f.id ≡ Some f.node → ((n : Node) → slice_get nodes f.node ≡ Some n → at ≡ n.at) → StandsFor image places nodes f at
+node_stands_for_object image places nodes f at n e p =
     let w = node_within nodes f.id f.node e in
     let m = item_of_list_within nodes f.node w in
     record { within = w; placed = node_place image places nodes f.node m.0 n m.1 ∙ ap Some (sym (p m.0 m.1)); object = object_of_node image places nodes f.id f.node n e }
@@ -65,12 +65,12 @@ pub record IsRead (image : Image) (f : Found) (kind : ObjKind) (words : List ℕ
   pub known : IsKnown image.classes kind (length words)
   pub small : length words ≤ large_array_limit
 
-pub read : (image : Image) (places : List ObjRef) (nodes : List Node) (f : Found) (at : ObjRef) (kind : ObjKind) (words : List ℕ) → AreNodes image places nodes → node_with nodes f.id ≡ Some f.node → ((n : Node) → slice_get nodes f.node ≡ Some n → at ≡ n.at)
+pub node_is_read_as_object : (image : Image) (places : List ObjRef) (nodes : List Node) (f : Found) (at : ObjRef) (kind : ObjKind) (words : List ℕ) → AreNodes image places nodes → node_with nodes f.id ≡ Some f.node → ((n : Node) → slice_get nodes f.node ≡ Some n → at ≡ n.at)
     → IsDumpable image → length places ≡ length image.objects → ((i : ℕ) → slice_get places i ≡ Some at → IfSome (slice_get image.objects i) (λ o. kind ≡ o.kind)) → ((i : ℕ) → slice_get places i ≡ Some at → IfSome (slice_get image.objects i) (λ o. words ≡ o.words))
     → IsRead image f kind words
-read image places nodes f at kind words n e p d many k w =
-    let s = stands image places nodes f at n e p in
-    let h = here image places f.node at kind words d many s.placed (k f.node s.placed) (w f.node s.placed) in
+node_is_read_as_object image places nodes f at kind words n e p d many k w =
+    let s = node_stands_for_object image places nodes f at n e p in
+    let h = object_viewed_at_place image places f.node at kind words d many s.placed (k f.node s.placed) (w f.node s.placed) in
     record { object = h.object; there = s.object ∙ h.there; same_kind = h.same_kind; same_words = h.same_words; many = ap length h.same_words; known = h.known; small = h.small }
 
 -- ---- slot by slot
@@ -110,7 +110,7 @@ looked_at image places nodes head f seen queue slot x seen_after new n l e o =
     let w = slice_get_within queue head f l.here in
     let d = l.search.early head f l.here in
     let k : IsKept image nodes seen_after queue new head x (f.depth + 1) =
-    kept image places nodes seen queue head x (f.depth + 1) (Slot slot head) seen_after new n l.search l.within (omega (arith, w)) (omega (arith, w, d)) (f, l.here, refl, e) o in
+    look_keeps_search image places nodes seen queue head x (f.depth + 1) (Slot slot head) seen_after new n l.search l.within (omega (arith, w)) (omega (arith, w, d)) (f, l.here, refl, e) o in
     record {
       search = k.search;
       within = k.within;
@@ -129,7 +129,7 @@ looked_at image places nodes head f seen queue slot x seen_after new n l e o =
 -- all slots
 pub looked_through : (image : Image) (nodes : List Node) (head : ℕ) (f : Found) (seen : List Bool) (queue : List Found) (slot : ℕ) (o : DumpedObject) → IsLooking image nodes head f seen queue slot → object_with image f.id ≡ Some o → slot ≡ length o.words → IsSearching image nodes seen queue (head + 1)
 looked_through image nodes head f seen queue slot o l e n =
-    stepped image nodes seen queue head f l.search l.here
+    search_one_step_further image nodes seen queue head f l.search l.here
     (λ s y q h. l.children s y (omega (arith, n, slot_within image.classes o s y (sym (named_is image f.id s o e) ∙ q))) q h)
 
 -- ---- register by register
@@ -137,10 +137,10 @@ looked_through image nodes head f seen queue slot o l e n =
 pub rooting_begins : (image : Image) (nodes : List Node) (seen : List Bool) (queue : List Found) → IsSearching image nodes seen queue 0 → IsWithin queue 0 → IsOrdered image queue (Register 0) → IsRooting image nodes seen queue 0
 rooting_begins image nodes seen queue s w o = record { search = s; within = w; roots = λ n y l. absurd (omega (arith, l)); ordered = o }
 
-pub rooted : (image : Image) (places : List ObjRef) (nodes : List Node) (seen : List Bool) (queue : List Found) (r x : ℕ) (seen_after : List Bool) (new : List Found) → AreNodes image places nodes → IsRooting image nodes seen queue r → slice_get image.registers r ≡ Some x
+pub rooting_of_one_more_register : (image : Image) (places : List ObjRef) (nodes : List Node) (seen : List Bool) (queue : List Found) (r x : ℕ) (seen_after : List Bool) (new : List Found) → AreNodes image places nodes → IsRooting image nodes seen queue r → slice_get image.registers r ≡ Some x
     → IsOfferedTo nodes x 0 (Register r) seen queue seen_after new → IsRooting image nodes seen_after new (r + 1)
-rooted image places nodes seen queue r x seen_after new n l e o =
-    let k : IsKept image nodes seen_after queue new 0 x 0 = kept image places nodes seen queue 0 x 0 (Register r) seen_after new n l.search l.within (omega arith) (omega arith) (refl, e) o in
+rooting_of_one_more_register image places nodes seen queue r x seen_after new n l e o =
+    let k : IsKept image nodes seen_after queue new 0 x 0 = look_keeps_search image places nodes seen queue 0 x 0 (Register r) seen_after new n l.search l.within (omega arith) (omega arith) (refl, e) o in
     record {
       search = k.search;
       within = k.within;
@@ -188,10 +188,10 @@ pub as_many_entries : (entries : List Entry) (queue : List Found) → AreEntries
 as_many_entries entries queue a = ap length a ∙ length-map queue entry_of
 
 -- an entry that was added keeps what was offered
-pub entered : (nodes : List Node) (x d : ℕ) (via : Via) (seen : List Bool) (entries : List Entry) (queue : List Found) (seen_after : List Bool) (new : List Entry) → AreEntries entries queue → IsEnteredIn nodes x (from_via via) seen entries seen_after new
+pub added_entry_keeps_offer : (nodes : List Node) (x d : ℕ) (via : Via) (seen : List Bool) (entries : List Entry) (queue : List Found) (seen_after : List Bool) (new : List Entry) → AreEntries entries queue → IsEnteredIn nodes x (from_via via) seen entries seen_after new
     → (after : List Found) × AreEntries new after × IsOfferedTo nodes x d via seen queue seen_after after
-entered nodes x d via seen entries queue seen_after new a (inl o) = (queue, o.1 ∙ a, inl (o.0, refl, o.2))
-entered nodes x d via seen entries queue seen_after new a (inr o) =
+added_entry_keeps_offer nodes x d via seen entries queue seen_after new a (inl o) = (queue, o.1 ∙ a, inl (o.0, refl, o.2))
+added_entry_keeps_offer nodes x d via seen entries queue seen_after new a (inr o) =
     let f : Found = record { node = o.0; id = x; depth = d; via = via } in
     (queue ++ f ∷ [], o.4 ∙ ap (λ (es : List Entry). es ++ entry_of f ∷ []) a ∙ sym (map_push entry_of queue f), inr (o.0, o.1, o.2, o.3, refl))
 
@@ -202,7 +202,7 @@ entry_here entries slice k e same is = ap (λ (es : List Entry). slice_get es k)
 pub entry_stands : (image : Image) (places : List ObjRef) (nodes : List Node) (f : Found) (e : Entry) (at : ObjRef) → AreNodes image places nodes → node_with nodes f.id ≡ Some f.node → entry_of f ≡ e → ((n : Node) → slice_get nodes e.node ≡ Some n → at ≡ n.at) → StandsFor image places nodes f at
 entry_stands image places nodes f e at n there is p =
     let same : f.node ≡ e.node = ap (λ (e : Entry). e.node) is in
-    stands image places nodes f at n there (λ m h. p m (ap (slice_get nodes) (sym same) ∙ h))
+    node_stands_for_object image places nodes f at n there (λ m h. p m (ap (slice_get nodes) (sym same) ∙ h))
 
 -- the object of an entry, by what a view tells of it
 pub entry_read : (image : Image) (places : List ObjRef) (nodes : List Node) (f : Found) (e : Entry) (at : ObjRef) (kind : ObjKind) (words : List ℕ) → AreNodes image places nodes → node_with nodes f.id ≡ Some f.node → entry_of f ≡ e → ((n : Node) → slice_get nodes e.node ≡ Some n → at ≡ n.at)
@@ -210,7 +210,7 @@ pub entry_read : (image : Image) (places : List ObjRef) (nodes : List Node) (f :
     → IsRead image f kind words
 entry_read image places nodes f e at kind words n there is p d many k w =
     let same : f.node ≡ e.node = ap (λ (e : Entry). e.node) is in
-    read image places nodes f at kind words n there (λ m h. p m (ap (slice_get nodes) (sym same) ∙ h)) d many k w
+    node_is_read_as_object image places nodes f at kind words n there (λ m h. p m (ap (slice_get nodes) (sym same) ∙ h)) d many k w
 
 -- slot by slot, of what the entry keeps that stood at `head` at the beginning
 pub record LooksAt (image : Image) (nodes : List Node) (head : ℕ) (started : List Entry) (seen : List Bool) (entries : List Entry) (slot : ℕ) : Type 0 where

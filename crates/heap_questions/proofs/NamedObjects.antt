@@ -13,16 +13,16 @@ use Rattle.heap_class.specs.declared.ObjKind.TheVariants.{Prim}
 use Rattle.heap_class.specs.declared.ObjRef.{ObjRef}
 use Rattle.hprof_text.specs.Image.{Image, DumpedObject, IsDumpable}
 use Rattle.hprof_text.proofs.Loops.{item_of_list_within}
-use Rattle.hprof_text.proofs.ViewedObjects.{IsHere, here, is_there}
+use Rattle.hprof_text.proofs.ViewedObjects.{IsHere, object_viewed_at_place, is_there}
 use Rattle.heap_questions.specs.Graph.{object_with}
 use Rattle.heap_questions.specs.Search.{AreNodes, node_with}
 use Rattle.heap_questions.specs.declared.nodes.Node.{Node}
 use Rattle.heap_questions.proofs.NodePlaces.{as_many, node_at, node_of_object, node_place, node_within, object_of_node}
 
 -- what a view tells of the object at a place that it was led to
-pub viewed : (image : Image) (places : List ObjRef) (i : ℕ) (next : Option ObjRef) (at : ObjRef) (kind : ObjKind) (words : List ℕ) → next ≡ slice_get places i → next ≡ Some at → IsDumpable image → length places ≡ length image.objects
+pub view_tells_named_object : (image : Image) (places : List ObjRef) (i : ℕ) (next : Option ObjRef) (at : ObjRef) (kind : ObjKind) (words : List ℕ) → next ≡ slice_get places i → next ≡ Some at → IsDumpable image → length places ≡ length image.objects
     → ((j : ℕ) → slice_get places j ≡ Some at → IfSome (slice_get image.objects j) (λ o. kind ≡ o.kind)) → ((j : ℕ) → slice_get places j ≡ Some at → IfSome (slice_get image.objects j) (λ o. words ≡ o.words)) → IsHere image i kind words
-viewed image places i next at kind words led is limits placed k w = let e = sym led ∙ is in here image places i at kind words limits placed e (k i e) (w i e)
+view_tells_named_object image places i next at kind words led is limits placed k w = let e = sym led ∙ is in object_viewed_at_place image places i at kind words limits placed e (k i e) (w i e)
 
 -- none of the first i objects has this id
 abbrev pub AreOthers : Image → ℕ → ℕ → Type 0

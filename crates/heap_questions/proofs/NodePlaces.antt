@@ -16,9 +16,9 @@ use Rattle.heap_questions.specs.Search.{AreNodes, node_with}
 use Rattle.heap_questions.specs.declared.nodes.Node.{Node}
 
 -- a place by a key is the place among the keys
-keyed : {X : Type 0} (f : X → ℕ) (x : ℕ) (xs : List X) → position_or_len (λ a. f a == x) xs ≡ position_or_len (λ n. n == x) (map f xs)
-keyed f x [] = refl
-keyed f x (a ∷ xs) = ap (λ n. cond (not (f a == x)) (1 + n) 0) (keyed f x xs)
+position_by_key : {X : Type 0} (f : X → ℕ) (x : ℕ) (xs : List X) → position_or_len (λ a. f a == x) xs ≡ position_or_len (λ n. n == x) (map f xs)
+position_by_key f x [] = refl
+position_by_key f x (a ∷ xs) = ap (λ n. cond (not (f a == x)) (1 + n) 0) (position_by_key f x xs)
 
 -- a place that is found
 found_at : {X : Type 0} (p : X → Bool) (xs : List X) (j : ℕ) → position p xs ≡ Some j → (position_or_len p xs ≡ j) × (j < length xs)
@@ -40,7 +40,7 @@ pub object_of_node : (image : Image) (places : List ObjRef) (nodes : List Node) 
 unfolding object_with
 object_of_node image places nodes x j h e =
     find_at (λ o. o.id == x) image.objects
-    ∙ ap (slice_get image.objects) (keyed (λ o. o.id) x image.objects ∙ ap (position_or_len (λ n. n == x)) (sym h.ids) ∙ sym (keyed (λ n. n.id) x nodes) ∙ (found_at (λ n. n.id == x) nodes j e).0)
+    ∙ ap (slice_get image.objects) (position_by_key (λ o. o.id) x image.objects ∙ ap (position_or_len (λ n. n == x)) (sym h.ids) ∙ sym (position_by_key (λ n. n.id) x nodes) ∙ (found_at (λ n. n.id == x) nodes j e).0)
 
 pub as_many : (image : Image) (places : List ObjRef) (nodes : List Node) → AreNodes image places nodes → length nodes ≡ length image.objects
 as_many image places nodes h = sym (length-map nodes (λ n. n.id)) ∙ ap length h.ids ∙ length-map image.objects (λ o. o.id)
@@ -50,7 +50,7 @@ pub node_of_object : (image : Image) (places : List ObjRef) (nodes : List Node) 
 unfolding object_with
 node_of_object image places nodes x h o =
     let at = position_or_len (λ n. n.id == x) nodes in
-    let e : position_or_len (λ o. o.id == x) image.objects ≡ at = keyed (λ o. o.id) x image.objects ∙ ap (position_or_len (λ n. n == x)) (sym h.ids) ∙ sym (keyed (λ n. n.id) x nodes) in
+    let e : position_or_len (λ o. o.id == x) image.objects ≡ at = position_by_key (λ o. o.id) x image.objects ∙ ap (position_or_len (λ n. n == x)) (sym h.ids) ∙ sym (position_by_key (λ n. n.id) x nodes) in
     elim (cases_lt at (length nodes)) [
       | inl lt ↦ (at, place_found (λ n. n.id == x) nodes lt)
       | inr ge ↦

@@ -29,13 +29,13 @@ passing_more p f n =
     ∙ ap (map f) (filter-append p (range_with_len 0 n) (n ∷ []))
     ∙ map-append f (filter p (range_with_len 0 n)) (cond (p n) (n ∷ []) [])
 
-pub passes : {X : Type 0} (p : ℕ → Bool) (f : ℕ → X) (n : ℕ) (old now new : List X) → p n ≡ true → now ≡ old ++ passing p f n → new ≡ now ++ f n ∷ [] → new ≡ old ++ passing p f (n + 1)
-passes p f n old now new t h e =
+pub passing_one_more : {X : Type 0} (p : ℕ → Bool) (f : ℕ → X) (n : ℕ) (old now new : List X) → p n ≡ true → now ≡ old ++ passing p f n → new ≡ now ++ f n ∷ [] → new ≡ old ++ passing p f (n + 1)
+passing_one_more p f n old now new t h e =
     e ∙ ap (λ l. l ++ f n ∷ []) h ∙ append_assoc old (passing p f n) (f n ∷ [])
     ∙ ap (λ l. old ++ l) (sym (passing_more p f n ∙ ap (λ b. passing p f n ++ map f (cond b (n ∷ []) [])) t))
 
-pub fails : {X : Type 0} (p : ℕ → Bool) (f : ℕ → X) (n : ℕ) (old now : List X) → p n ≡ false → now ≡ old ++ passing p f n → now ≡ old ++ passing p f (n + 1)
-fails p f n old now t h =
+pub passing_no_more : {X : Type 0} (p : ℕ → Bool) (f : ℕ → X) (n : ℕ) (old now : List X) → p n ≡ false → now ≡ old ++ passing p f n → now ≡ old ++ passing p f (n + 1)
+passing_no_more p f n old now t h =
     h ∙ ap (λ l. old ++ l) (sym (passing_more p f n ∙ ap (λ b. passing p f n ++ map f (cond b (n ∷ []) [])) t ∙ append-nil (passing p f n)))
 
 -- slot s of an object, whose word is w, names x

@@ -27,7 +27,7 @@ use Rattle.heap_trail.proofs.RetainedStates.{as_many_records_as_states, recorded
 use Rattle.heap_questions.specs.Losses.{StoodFor, UnreachedFor, id_now}
 use Rattle.heap_questions.proofs.ImagePaths.{id_back}
 use Rattle.heap_questions.proofs.Sizes.{covered_size, patched_size, same_regions, used_of}
-use Rattle.heap_questions.proofs.ToldObjects.{reclaimed_none, told}
+use Rattle.heap_questions.proofs.ToldObjects.{reclaimed_none, step_tells_before}
 use Rattle.heap_questions.proofs.UnreachedObjects.{stays_unreached}
 use Rattle.heap_questions.proofs.Walk.{now_is}
 
@@ -44,9 +44,9 @@ untouched_sized left before after r u t n e = covered_size (used_at before.regio
 none_touched : (left : Undo) (before after : HeapState) (r : ℕ) (u : UsedRegion) → touched left ≡ None → TellsBefore left before after → used_at before.regions r ≡ Some u → StaysSized after r u
 none_touched left before after r u n t e = untouched_sized left before after r u t (λ z. none-some r (sym n ∙ z)) e
 
-pub sized : (left : Undo) (before after : HeapState) (r : ℕ) (u : UsedRegion) → TellsBefore left before after → ((storage : UsedRegion) → left ≡ Reclaim r storage → ⊥) → used_at before.regions r ≡ Some u → StaysSized after r u
+pub region_stays_sized : (left : Undo) (before after : HeapState) (r : ℕ) (u : UsedRegion) → TellsBefore left before after → ((storage : UsedRegion) → left ≡ Reclaim r storage → ⊥) → used_at before.regions r ≡ Some u → StaysSized after r u
 unfolding touched region_frozen
-sized left before after r u t n e = by_patch (λ k. TellsBefore k before after → left ≡ k → StaysSized after r u)
+region_stays_sized left before after r u t n e = by_patch (λ k. TellsBefore k before after → left ≡ k → StaysSized after r u)
     (λ k region p t is. elim (cases_eq r region) [
       | inl q ↦
           let covers = t.touched_region r (region_frozen after.regions r) (p.region ∙ ap Some (sym q)) (same_copy_covers _ _ refl) in
@@ -73,7 +73,7 @@ unfolding id_of
 id_stays e before after left at s b a =
     let o = there_is after.regions at a in
     let u = used_of before.regions at b in
-    let v = sized left before after at.region u.0 (told e before after left s) (λ storage q. reclaimed_none e before after at.region storage at o.0 (subst (λ (l : Undo). IsStep e before after l) q s) refl o.1) u.1 in
+    let v = region_stays_sized left before after at.region u.0 (step_tells_before e before after left s) (λ storage q. reclaimed_none e before after at.region storage at o.0 (subst (λ (l : Undo). IsStep e before after l) q s) refl o.1) u.1 in
     ap (λ n. 268435456 + 8 * (1024 * at.region + at.cell * n))
     (ap (λ (x : Option UsedRegion). option_map_or (λ (u : UsedRegion). u.cell_size) x 0) u.1 ∙ sym v.2 ∙ sym (ap (λ (x : Option UsedRegion). option_map_or (λ (u : UsedRegion). u.cell_size) x 0) v.1))
 

@@ -37,9 +37,9 @@ use Rattle.heap_questions.specs.Changes.{made_by}
 use Rattle.heap_questions.specs.PastTrails.{HasCellSize, IsCellOf, IsPast, id_with, size_before, sized_cell, stood_before, storage_cell_size}
 use Rattle.heap_questions.proofs.ImagePaths.{id_back}
 use Rattle.heap_questions.proofs.NewestSteps.{left_there}
-use Rattle.heap_questions.proofs.PastIds.{sized}
+use Rattle.heap_questions.proofs.PastIds.{region_stays_sized}
 use Rattle.heap_questions.proofs.Sizes.{cells_some, reclaimed_size, table_of, used_of, whole_size}
-use Rattle.heap_questions.proofs.ToldObjects.{some_state, told}
+use Rattle.heap_questions.proofs.ToldObjects.{some_state, step_tells_before}
 use Rattle.heap_questions.proofs.Writes.{new_state, old_state}
 
 -- ---- the trail after a rewind
@@ -60,15 +60,15 @@ same_default [] n d e l = absurd (omega (arith, l))
 same_default (x ∷ xs) zero d e l = refl
 same_default (x ∷ xs) (suc n) d e l = same_default xs n d e (omega (arith, l))
 
-dropped : (a n : ℕ) (w d e : HeapState) (xs : List HeapState) → a + n ≤ length xs → get_or (get_or (w ∷ xs) a d ∷ drop a xs) n e ≡ get_or (w ∷ xs) (a + n) d
-dropped zero n w d e xs l = same_default (w ∷ xs) n e d (omega (arith, l)) ∙ ap (λ k. get_or (w ∷ xs) k d) (let z : n ≡ 0 + n = omega arith in z)
-dropped (suc a) n w d e [] l = absurd (omega (arith, l))
-dropped (suc a) n w d e (x ∷ xs) l = dropped a n x d e xs (omega (arith, l)) ∙ ap (λ k. get_or (w ∷ x ∷ xs) k d) (let z : suc (a + n) ≡ suc a + n = omega arith in z)
+element_after_drop : (a n : ℕ) (w d e : HeapState) (xs : List HeapState) → a + n ≤ length xs → get_or (get_or (w ∷ xs) a d ∷ drop a xs) n e ≡ get_or (w ∷ xs) (a + n) d
+element_after_drop zero n w d e xs l = same_default (w ∷ xs) n e d (omega (arith, l)) ∙ ap (λ k. get_or (w ∷ xs) k d) (let z : n ≡ 0 + n = omega arith in z)
+element_after_drop (suc a) n w d e [] l = absurd (omega (arith, l))
+element_after_drop (suc a) n w d e (x ∷ xs) l = element_after_drop a n x d e xs (omega (arith, l)) ∙ ap (λ k. get_or (w ∷ x ∷ xs) k d) (let z : suc (a + n) ≡ suc a + n = omega arith in z)
 
 -- a state before the one that a rewind leads to
 pub state_past : (t : Trail) (a n : ℕ) → a + n ≤ retained t → state_ago n (rewound a t) ≡ state_ago (a + n) t
 unfolding state_ago rewound
-state_past t a n l = dropped a n t.current t.current (get_or (t.current ∷ t.past) a t.current) t.past l
+state_past t a n l = element_after_drop a n t.current t.current (get_or (t.current ∷ t.past) a t.current) t.past l
 
 pub current_past : (t : Trail) (a : ℕ) → (rewound a t).current ≡ state_ago a t
 unfolding rewound
@@ -141,7 +141,7 @@ by_states left f at = refl
 
 pub stood_step : (left : Undo) (e : Event) (before after : HeapState) (at : ObjRef) → IsStep e before after left → is_some (object_at before.regions at) ≡ stood_before left at (is_some (object_at after.regions at))
 stood_step left e before after at s =
-    let t = told e before after left s in
+    let t = step_tells_before e before after left s in
     some_by_state (object_at before.regions at)
     ∙ ap (λ n. not (n == 0)) (t.states at)
     ∙ by_states left (λ b. cell_state (object_at after.regions b)) at
@@ -154,9 +154,9 @@ stands_by s w t at b is now e = e ∙ ap (λ (p : RegionPool). is_some (object_a
 
 -- ---- the size of a region's cells
 
-abbrev reclaims : Undo → Bool
-reclaims (Reclaim region storage) = true
-reclaims left = false
+abbrev reclaims_region : Undo → Bool
+reclaims_region (Reclaim region storage) = true
+reclaims_region left = false
 
 abbrev region_in : Undo → ℕ
 region_in (Reclaim region storage) = region
@@ -167,13 +167,13 @@ same_region a b x y z = ap region_in z
 
 kept_size : (left : Undo) (e : Event) (before after : HeapState) (r n : ℕ) (u : UsedRegion) → IsStep e before after left → ((storage : UsedRegion) → left ≡ Reclaim r storage → ⊥) → HasCellSize after r n → used_at before.regions r ≡ Some u → n ≡ u.cell_size
 kept_size left e before after r n u s never h used =
-    let v = sized left before after r u (told e before after left s) never used in
+    let v = region_stays_sized left before after r u (step_tells_before e before after left s) never used in
     h v.0 v.1 ∙ v.2
 
 reclaimed_cells : (region : ℕ) (storage : UsedRegion) (e : Event) (before after : HeapState) (r : ℕ) (u : UsedRegion) → IsStep e before after (Reclaim region storage) → region ≡ r → used_at before.regions r ≡ Some u → storage_cell_size storage ≡ u.cell_size
 unfolding touched walked_copy region_frozen
 reclaimed_cells region storage e before after r u s q used =
-    let t = told e before after (Reclaim region storage) s in
+    let t = step_tells_before e before after (Reclaim region storage) s in
     let c = t.touched_region r (region_frozen after.regions r) (ap Some q) (same_copy_covers _ _ refl) in
     reclaimed_size (used_at before.regions r) storage u c used ∙ whole_size u (table_of before r u s.legal used)
 
@@ -183,7 +183,7 @@ size_step (Reclaim region storage) e before after r n s h u used = elim (cases_e
   | inr q ↦ ap (λ (b : Bool). cond b (storage_cell_size storage) n) (ne_eqb region r q)
       ∙ kept_size (Reclaim region storage) e before after r n u s (λ k z. q (same_region region r storage k z)) h used
 ]
-size_step left e before after r n s h u used = kept_size left e before after r n u s (λ k z. false≢true (ap reclaims z)) h used
+size_step left e before after r n s h u used = kept_size left e before after r n u s (λ k z. false≢true (ap reclaims_region z)) h used
 
 pub reclaim_cells : (left : Undo) (e : Event) (before after : HeapState) → IsStep e before after left → (r : ℕ) (u : UsedRegion) → left ≡ Reclaim r u → 0 < length u.cells
 reclaim_cells left e before after s r u h = let i = reclaim_inhabited e before after left s r u h in cells_some u i.0 i.1 i.2

@@ -173,15 +173,15 @@ same_most : (xs : List ℕ) → AreAtMost xs xs
 same_most [] = tt
 same_most (x ∷ xs) = inr (refl, same_most xs)
 
-turned : (r s : ℕ) (b : List ℕ) → r ∷ reverse (s ∷ b) ≡ (r ∷ reverse b) ++ s ∷ []
-turned r s b = ap (λ (l : List ℕ). r ∷ l) (reverse-append (s ∷ []) b)
+reverse_of_longer_path : (r s : ℕ) (b : List ℕ) → r ∷ reverse (s ∷ b) ≡ (r ∷ reverse b) ++ s ∷ []
+reverse_of_longer_path r s b = ap (λ (l : List ℕ). r ∷ l) (reverse-append (s ∷ []) b)
 
 lower_turned : (r : ℕ) (b : List ℕ) (q : ℕ) (c : List ℕ) → length b ≡ length c → Before r b q c → AreLower (r ∷ reverse b) (q ∷ reverse c)
 lower_turned r [] q [] e h = inl h
 lower_turned r [] q (t ∷ c) e h = absurd (omega (arith, e))
 lower_turned r (s ∷ b) q [] e h = absurd h
 lower_turned r (s ∷ b) q (t ∷ c) e h =
-    subst (λ (l : List ℕ). AreLower l (q ∷ reverse (t ∷ c))) (sym (turned r s b)) (subst (λ (l : List ℕ). AreLower ((r ∷ reverse b) ++ s ∷ []) l) (sym (turned q t c)) (elim h [
+    subst (λ (l : List ℕ). AreLower l (q ∷ reverse (t ∷ c))) (sym (reverse_of_longer_path r s b)) (subst (λ (l : List ℕ). AreLower ((r ∷ reverse b) ++ s ∷ []) l) (sym (reverse_of_longer_path q t c)) (elim h [
       | inl m ↦ lower_more (r ∷ reverse b) (q ∷ reverse c) (s ∷ []) (t ∷ []) (lower_turned r b q c (omega (arith, e)) m)
       | inr m ↦
           let same : r ∷ reverse b ≡ q ∷ reverse c = ap₂ (λ (n : ℕ) (l : List ℕ). n ∷ reverse l) m.0 m.1 in
@@ -195,9 +195,9 @@ most_turned r b q c e (inr h) = subst (AreAtMost (r ∷ reverse b)) (ap₂ (λ (
 -- ---- a path as it is given
 
 -- slots that lead on from where others lead
-walked : (image : Image) (q : ℕ) (slots c : List ℕ) (y x : ℕ) → LeadsTo image q c y → followed image y slots ≡ Some x → LeadsTo image q (reverse slots ++ c) x
-walked image q [] c y x h e = subst (LeadsTo image q c) (same_Some y x e) h
-walked image q (s ∷ ss) c y x h e = go (named image y s) refl e (λ z l f. walked image q ss (s ∷ c) z x l f)
+slots_lead_further : (image : Image) (q : ℕ) (slots c : List ℕ) (y x : ℕ) → LeadsTo image q c y → followed image y slots ≡ Some x → LeadsTo image q (reverse slots ++ c) x
+slots_lead_further image q [] c y x h e = subst (LeadsTo image q c) (same_Some y x e) h
+slots_lead_further image q (s ∷ ss) c y x h e = go (named image y s) refl e (λ z l f. slots_lead_further image q ss (s ∷ c) z x l f)
   where
     again : reverse ss ++ s ∷ c ≡ reverse (s ∷ ss) ++ c
     again = sym (append_more (reverse ss) s c) ∙ ap (λ (l : List ℕ). l ++ c) (sym (reverse-append (s ∷ []) ss))
@@ -219,7 +219,7 @@ leads_to image q slots x p = go (slice_get image.registers q) refl p.leads
 
     go : (n : Option ℕ) → slice_get image.registers q ≡ n → option_and_then (λ y. followed image y slots) n ≡ Some x → LeadsTo image q (reverse slots) x
     go None e h = absurd (none-some x h)
-    go (Some y) e h = subst (λ (l : List ℕ). LeadsTo image q l x) (no_more (reverse slots)) (walked image q slots [] y x e h)
+    go (Some y) e h = subst (λ (l : List ℕ). LeadsTo image q l x) (no_more (reverse slots)) (slots_lead_further image q slots [] y x e h)
 
 -- the way on which an object was found is the first of all with as many slots
 pub found_first : (image : Image) (queue : List Found) (k : ℕ) (f : Found) (r : ℕ) (slots : List ℕ) (x : ℕ) → IsSearchedTo image queue (length slots) → HasSearchOrder image queue → slice_get queue k ≡ Some f → f.id ≡ x → IsWayBack queue k r (reverse slots)

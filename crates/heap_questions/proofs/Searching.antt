@@ -41,9 +41,9 @@ pub record IsKept (image : Image) (nodes : List Node) (seen : List Bool) (queue 
   pub stays : (y e : ℕ) → IsFound queue y e → IsFound new y e
   pub there : (k : ℕ) (f : Found) → slice_get queue k ≡ Some f → slice_get new k ≡ Some f
 
-skipped : (image : Image) (places : List ObjRef) (nodes : List Node) (seen : List Bool) (queue : List Found) (head x d : ℕ) → AreNodes image places nodes → IsSearching image nodes seen queue head → IsWithin queue d
+known_child_is_skipped : (image : Image) (places : List ObjRef) (nodes : List Node) (seen : List Bool) (queue : List Found) (head x d : ℕ) → AreNodes image places nodes → IsSearching image nodes seen queue head → IsWithin queue d
     → ((j : ℕ) → node_with nodes x ≡ Some j → get_or seen j false ≡ true) → HasId image x → IsFound queue x d
-skipped image places nodes seen queue head x d n s w m o =
+known_child_is_skipped image places nodes seen queue head x d n s w m o =
     let j = node_of_object image places nodes x n o in
     let k = s.marked j.0 (m j.0 j.1) in
     let e : node_with nodes k.1.id ≡ Some j.0 = s.placed k.0 k.1 k.2 ∙ ap Some k.3 in
@@ -73,9 +73,9 @@ marked_more seen queue g h m j e =
       | inr p ↦ let o = m j (sym (get_or-set_other seen g.node j true false p) ∙ e) in (o.0, o.1, got_before queue g o.0 o.1 o.2, o.3)
     ]
 
-added : (image : Image) (nodes : List Node) (seen : List Bool) (queue : List Found) (head : ℕ) (g : Found) → head ≤ length queue → IsSearching image nodes seen queue head → IsWithin queue g.depth → g.depth ≤ length queue
+new_child_is_added : (image : Image) (nodes : List Node) (seen : List Bool) (queue : List Found) (head : ℕ) (g : Found) → head ≤ length queue → IsSearching image nodes seen queue head → IsWithin queue g.depth → g.depth ≤ length queue
     → IsReached image queue g → node_with nodes g.id ≡ Some g.node → get_or seen g.node false ≡ false → IsSearching image nodes (set seen g.node true) (queue ++ g ∷ []) head
-added image nodes seen queue head g hd s w d r n m =
+new_child_is_added image nodes seen queue head g hd s w d r n m =
     let lt : g.node < length seen = omega (arith, s.as_many, node_within nodes g.id g.node n) in
     record {
       reached = λ k f h. elim (got_cases queue g k f h) [
@@ -104,11 +104,11 @@ added image nodes seen queue head g hd s w d r n m =
       ];
     }
 
-same : (image : Image) (nodes : List Node) (seen : List Bool) (queue : List Found) (head x d : ℕ) → IsSearching image nodes seen queue head → IsWithin queue d → (HasId image x → IsFound queue x d) → IsKept image nodes seen queue queue head x d
-same image nodes seen queue head x d s w f = record { search = s; within = w; found = f; longer = omega arith; stays = λ y e h. h; there = λ k f h. h }
+search_kept_without_child : (image : Image) (nodes : List Node) (seen : List Bool) (queue : List Found) (head x d : ℕ) → IsSearching image nodes seen queue head → IsWithin queue d → (HasId image x → IsFound queue x d) → IsKept image nodes seen queue queue head x d
+search_kept_without_child image nodes seen queue head x d s w f = record { search = s; within = w; found = f; longer = omega arith; stays = λ y e h. h; there = λ k f h. h }
 
-grown : (image : Image) (nodes : List Node) (seen : List Bool) (queue : List Found) (head : ℕ) (g : Found) → IsSearching image nodes seen (queue ++ g ∷ []) head → IsWithin queue g.depth → IsKept image nodes seen queue (queue ++ g ∷ []) head g.id g.depth
-grown image nodes seen queue head g s w =
+search_kept_with_child : (image : Image) (nodes : List Node) (seen : List Bool) (queue : List Found) (head : ℕ) (g : Found) → IsSearching image nodes seen (queue ++ g ∷ []) head → IsWithin queue g.depth → IsKept image nodes seen queue (queue ++ g ∷ []) head g.id g.depth
+search_kept_with_child image nodes seen queue head g s w =
     record {
       search = s;
       within = λ k f h. elim (got_cases queue g k f h) [ inl p ↦ w k f p | inr p ↦ let e : f.depth ≡ g.depth = ap (λ f. f.depth) p.1 in omega (arith, e) ];
@@ -118,21 +118,21 @@ grown image nodes seen queue head g s w =
       there = λ k f h. got_before queue g k f h;
     }
 
-pub kept : (image : Image) (places : List ObjRef) (nodes : List Node) (seen : List Bool) (queue : List Found) (head x d : ℕ) (via : Via) (seen_after : List Bool) (new : List Found)
+pub look_keeps_search : (image : Image) (places : List ObjRef) (nodes : List Node) (seen : List Bool) (queue : List Found) (head x d : ℕ) (via : Via) (seen_after : List Bool) (new : List Found)
     → AreNodes image places nodes → IsSearching image nodes seen queue head → IsWithin queue d → head ≤ length queue → d ≤ length queue → IsReachedBy image queue x d via → IsOfferedTo nodes x d via seen queue seen_after new
     → IsKept image nodes seen_after queue new head x d
-kept image places nodes seen queue head x d via seen_after new n s w hd dl r (inl o) =
-    let k = same image nodes seen queue head x d s w (skipped image places nodes seen queue head x d n s w o.2) in
+look_keeps_search image places nodes seen queue head x d via seen_after new n s w hd dl r (inl o) =
+    let k = search_kept_without_child image nodes seen queue head x d s w (known_child_is_skipped image places nodes seen queue head x d n s w o.2) in
     subst (λ (q : List Found). IsKept image nodes seen_after queue q head x d) (sym o.1) (subst (λ (m : List Bool). IsKept image nodes m queue queue head x d) (sym o.0) k)
-kept image places nodes seen queue head x d via seen_after new n s w hd dl r (inr o) =
+look_keeps_search image places nodes seen queue head x d via seen_after new n s w hd dl r (inr o) =
     let g : Found = record { node = o.0; id = x; depth = d; via = via } in
-    let k = grown image nodes (set seen o.0 true) queue head g (added image nodes seen queue head g hd s w dl r o.1 o.2) w in
+    let k = search_kept_with_child image nodes (set seen o.0 true) queue head g (new_child_is_added image nodes seen queue head g hd s w dl r o.1 o.2) w in
     subst (λ (q : List Found). IsKept image nodes seen_after queue q head x d) (sym o.4) (subst (λ (m : List Bool). IsKept image nodes m queue (queue ++ g ∷ []) head x d) (sym o.3) k)
 
 -- ---- the search as it begins
 
-pub begun : (image : Image) (nodes : List Node) (seen : List Bool) → length seen ≡ length nodes → ((j : ℕ) → get_or seen j false ≡ false) → count_by (λ b. b) seen ≡ 0 → IsSearching image nodes seen [] 0
-begun image nodes seen n m c =
+pub search_begins : (image : Image) (nodes : List Node) (seen : List Bool) → length seen ≡ length nodes → ((j : ℕ) → get_or seen j false ≡ false) → count_by (λ b. b) seen ≡ 0 → IsSearching image nodes seen [] 0
+search_begins image nodes seen n m c =
     record {
       reached = λ k f h. absurd (none-some f h);
       placed = λ k f h. absurd (none-some f h);
@@ -152,8 +152,8 @@ pub all_children : (image : Image) (queue : List Found) (x n d : ℕ) → ((s y 
 all_children image queue x n d w h s y e o = h s y (w s y e) e o
 
 -- so the search is one step further
-pub stepped : (image : Image) (nodes : List Node) (seen : List Bool) (queue : List Found) (head : ℕ) (f : Found) → IsSearching image nodes seen queue head → slice_get queue head ≡ Some f → HasAllChildren image queue f.id (f.depth + 1) → IsSearching image nodes seen queue (head + 1)
-stepped image nodes seen queue head f s g c =
+pub search_one_step_further : (image : Image) (nodes : List Node) (seen : List Bool) (queue : List Found) (head : ℕ) (f : Found) → IsSearching image nodes seen queue head → slice_get queue head ≡ Some f → HasAllChildren image queue f.id (f.depth + 1) → IsSearching image nodes seen queue (head + 1)
+search_one_step_further image nodes seen queue head f s g c =
     let closed : (k : ℕ) (e : Found) → k < head + 1 → slice_get queue k ≡ Some e → HasAllChildren image queue e.id (e.depth + 1) = λ k e l h. elim (cases_eq k head) [
       | inl p ↦
           let q : e ≡ f = got_same queue head e f (ap (slice_get queue) (sym p) ∙ h) g in
@@ -173,8 +173,8 @@ pub near_first : (queue : List Found) → IsWithin queue 0 → IsNear queue 0
 near_first queue w h p k f q = let a = w k f q in omega (arith, a)
 
 -- there is no more to be found than nodes
-pub few : (image : Image) (nodes : List Node) (seen : List Bool) (queue : List Found) (head : ℕ) → IsSearching image nodes seen queue head → length queue ≤ length nodes
-few image nodes seen queue head s = omega (arith, s.counted, s.as_many, count_by-le-length (λ b. b) seen)
+pub found_are_at_most_nodes : (image : Image) (nodes : List Node) (seen : List Bool) (queue : List Found) (head : ℕ) → IsSearching image nodes seen queue head → length queue ≤ length nodes
+found_are_at_most_nodes image nodes seen queue head s = omega (arith, s.counted, s.as_many, count_by-le-length (λ b. b) seen)
 
 -- all was looked at whose children are less than d deep
 pub searched_to : (image : Image) (places : List ObjRef) (nodes : List Node) (seen : List Bool) (queue : List Found) (head d : ℕ) → AreNodes image places nodes → IsSearching image nodes seen queue head
@@ -189,8 +189,8 @@ searched_to image places nodes seen queue head d n s l r =
     }
 
 -- all was looked at
-pub searched : (image : Image) (places : List ObjRef) (nodes : List Node) (seen : List Bool) (queue : List Found) (head : ℕ) → AreNodes image places nodes → IsSearching image nodes seen queue head → length queue ≤ head → HasRoots image queue (length image.registers) → IsSearched image queue
-searched image places nodes seen queue head n s l r d = searched_to image places nodes seen queue head d n s (λ k f m h. omega (arith, l, slice_get_within queue k f h)) r
+pub search_ends : (image : Image) (places : List ObjRef) (nodes : List Node) (seen : List Bool) (queue : List Found) (head : ℕ) → AreNodes image places nodes → IsSearching image nodes seen queue head → length queue ≤ head → HasRoots image queue (length image.registers) → IsSearched image queue
+search_ends image places nodes seen queue head n s l r d = searched_to image places nodes seen queue head d n s (λ k f m h. omega (arith, l, slice_get_within queue k f h)) r
 
 pub are_seen : (image : Image) (nodes : List Node) (seen : List Bool) (queue : List Found) (head : ℕ) → IsSearching image nodes seen queue head → AreSeen nodes seen queue
 are_seen image nodes seen queue head s = record { placed = s.placed; marked = s.marked; found = s.found; as_many = s.as_many }

@@ -14,7 +14,7 @@ use Rattle.heap_questions.specs.Starts.{starts_by, with_starts}
 use Rattle.heap_questions.specs.declared.nodes.Node.{Node}
 use Rattle.heap_questions.specs.declared.search.Entry.{Entry}
 use Rattle.heap_questions.proofs.LongerLists.{got_same}
-use Rattle.heap_questions.proofs.Looking.{IsRead, entered, named_is, read, rooted, rooted_past, slot_is_none, slot_within, stands}
+use Rattle.heap_questions.proofs.Looking.{IsRead, added_entry_keeps_offer, named_is, node_is_read_as_object, rooting_of_one_more_register, rooted_past, slot_is_none, slot_within, node_stands_for_object}
 use Rattle.heap_questions.proofs.NodePlaces.{node_of_object}
 use Rattle.heap_questions.proofs.OtherRegisters.{same_nodes, same_object_with}
 use Rattle.heap_questions.proofs.Starting.{IsStart, no_start, start_is, start_word}
@@ -46,12 +46,12 @@ pub begun_more : (image : Image) (places : List ObjRef) (earlier : List Route) (
 begun_more image places earlier nodes seen entries r s x y i seen_after new n small free named_x leads is within o b =
     let W : Image = with_starts image earlier in
     let offer = subst (λ k. IsEnteredIn nodes y k seen entries seen_after new) is o in
-    let e = entered nodes y 0 (Register (r * slot_span + s)) seen entries b.queue seen_after new b.kept offer in
+    let e = added_entry_keeps_offer nodes y 0 (Register (r * slot_span + s)) seen entries b.queue seen_after new b.kept offer in
     let word = start_word image earlier r s y small within (start_is image earlier r s x y free named_x leads) in
     record {
       queue = e.0;
       kept = e.1;
-      rooting = rooted W places nodes seen b.queue (r * slot_span + s) y seen_after e.0 (same_nodes image W.registers places nodes n) b.rooting word e.2;
+      rooting = rooting_of_one_more_register W places nodes seen b.queue (r * slot_span + s) y seen_after e.0 (same_nodes image W.registers places nodes n) b.rooting word e.2;
     }
 
 -- ---- where nothing starts
@@ -94,9 +94,9 @@ abbrev pub found_as : ℕ → ℕ → Found
 found_as x node = record { node = node; id = x; depth = 0; via = Register 0 }
 
 pub node_led : (image : Image) (places : List ObjRef) (nodes : List Node) (x node : ℕ) (at : ObjRef) → AreNodes image places nodes → node_with nodes x ≡ Some node → ((n : Node) → slice_get nodes node ≡ Some n → at ≡ n.at) → slice_get places node ≡ Some at
-node_led image places nodes x node at n e p = (stands image places nodes (found_as x node) at n e p).placed
+node_led image places nodes x node at n e p = (node_stands_for_object image places nodes (found_as x node) at n e p).placed
 
 pub node_read : (image : Image) (places : List ObjRef) (nodes : List Node) (x node : ℕ) (at : ObjRef) (kind : ObjKind) (words : List ℕ) → AreNodes image places nodes → node_with nodes x ≡ Some node → ((n : Node) → slice_get nodes node ≡ Some n → at ≡ n.at)
     → IsDumpable image → length places ≡ length image.objects → ((i : ℕ) → slice_get places i ≡ Some at → IfSome (slice_get image.objects i) (λ o. kind ≡ o.kind)) → ((i : ℕ) → slice_get places i ≡ Some at → IfSome (slice_get image.objects i) (λ o. words ≡ o.words))
     → IsRead image (found_as x node) kind words
-node_read image places nodes x node at kind words n e p d many k w = read image places nodes (found_as x node) at kind words n e p d many k w
+node_read image places nodes x node at kind words n e p d many k w = node_is_read_as_object image places nodes (found_as x node) at kind words n e p d many k w

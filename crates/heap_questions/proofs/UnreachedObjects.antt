@@ -252,10 +252,10 @@ names_none w classes kind n y c =
     r.5 (sym (same_Some 0 y (sym (zero_there n r.0 (omega (arith, l, length-replicate {A = ℕ} n 0))) ∙ r.4)))
 
 -- the heap with the object at its place, and its id in the register
-abbrev made : HeapState → ℕ → ℕ → ObjRef → Bool → Object → HeapState
-made w m r at fresh o = let s : RegionPool = allocated at fresh o (pool_of w) in with_register m r (id_of s.regions at) (with_pool s w)
+abbrev heap_with_made_object : HeapState → ℕ → ℕ → ObjRef → Bool → Object → HeapState
+heap_with_made_object w m r at fresh o = let s : RegionPool = allocated at fresh o (pool_of w) in with_register m r (id_of s.regions at) (with_pool s w)
 
-made_less : (w : HeapState) → IsLegal w → (m r n : ℕ) (kind : ObjKind) (at : ObjRef) (fresh : Bool) → new_place n (pool_of w) ≡ Some (at, fresh) → ReachesLess w (made w m r at fresh (new_object kind n w))
+made_less : (w : HeapState) → IsLegal w → (m r n : ℕ) (kind : ObjKind) (at : ObjRef) (fresh : Bool) → new_place n (pool_of w) ≡ Some (at, fresh) → ReachesLess w (heap_with_made_object w m r at fresh (new_object kind n w))
 unfolding new_object
 made_less w legal m r n kind at fresh place = reached_before w v roots names
   where
@@ -266,7 +266,7 @@ made_less w legal m r n kind at fresh place = reached_before w v roots names
     s = allocated at fresh o (pool_of w)
 
     v : HeapState
-    v = made w m r at fresh o
+    v = heap_with_made_object w m r at fresh o
 
     new : IsNew w at o s
     new = is_new w legal at fresh o (ap (λ k. new_place k (pool_of w)) (length-replicate {A = ℕ} n 0) ∙ place)
@@ -289,7 +289,7 @@ new_less : (w : HeapState) → IsLegal w → (m r n : ℕ) (kind : ObjKind) → 
 unfolding after_new
 new_less w legal m r n kind = go (new_place n (pool_of w)) refl
   where
-    go : (p : Option (ObjRef × Bool)) → new_place n (pool_of w) ≡ p → ReachesLess w (option_map_or (λ (p : ObjRef × Bool). made w m r p.0 p.1 (new_object kind n w)) p w)
+    go : (p : Option (ObjRef × Bool)) → new_place n (pool_of w) ≡ p → ReachesLess w (option_map_or (λ (p : ObjRef × Bool). heap_with_made_object w m r p.0 p.1 (new_object kind n w)) p w)
     go None e = λ x there r. r
     go (Some p) e = made_less w legal m r n kind p.0 p.1 e
 

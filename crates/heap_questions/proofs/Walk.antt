@@ -35,15 +35,15 @@ one_more look t n h e m l = elim (cases_eq m n) [
 word_ago : (t : Trail) (at : ObjRef) (s n now : ℕ) → slot_word t.current at s ≡ Some now → AllLeave (λ w. slot_word w at s) t n → slot_word (state_ago n t) at s ≡ Some now
 word_ago t at s n now h l = sym (all_leave (λ w. slot_word w at s) t n l) ∙ ap (λ w. slot_word w at s) (now_is t) ∙ h
 
-pub written : (t : Trail) (at : ObjRef) (s n now : ℕ) (left : Undo) → n < retained t → slot_word t.current at s ≡ Some now → AllLeave (λ w. slot_word w at s) t n → HasRecord t n left → changed_by left at s now ≡ true → IsLastWrite t at s (t.place - n)
-written t at s n now left lt h l r c =
+pub change_is_last_write : (t : Trail) (at : ObjRef) (s n now : ℕ) (left : Undo) → n < retained t → slot_word t.current at s ≡ Some now → AllLeave (λ w. slot_word w at s) t n → HasRecord t n left → changed_by left at s now ≡ true → IsLastWrite t at s (t.place - n)
+change_is_last_write t at s n now left lt h l r c =
     let w = word_ago t at s n now h l in
     let tells = record_tells r.0 (state_ago (n + 1) t) (state_ago n t) left at s now r.1 w in
     let no : slot_word (state_ago (n + 1) t) at s ≡ Some now → ⊥ = when_true _ _ c tells in
     record { ago = n; within = lt; place_is = refl; changed = λ e. no (sym e ∙ w); since = l }
 
-pub unwritten : (t : Trail) (at : ObjRef) (s n now : ℕ) (left : Undo) → slot_word t.current at s ≡ Some now → AllLeave (λ w. slot_word w at s) t n → HasRecord t n left → changed_by left at s now ≡ false → AllLeave (λ w. slot_word w at s) t (n + 1)
-unwritten t at s n now left h l r c =
+pub no_change_goes_further : (t : Trail) (at : ObjRef) (s n now : ℕ) (left : Undo) → slot_word t.current at s ≡ Some now → AllLeave (λ w. slot_word w at s) t n → HasRecord t n left → changed_by left at s now ≡ false → AllLeave (λ w. slot_word w at s) t (n + 1)
+no_change_goes_further t at s n now left h l r c =
     let w = word_ago t at s n now h l in
     let tells = record_tells r.0 (state_ago (n + 1) t) (state_ago n t) left at s now r.1 w in
     let same : slot_word (state_ago (n + 1) t) at s ≡ Some now = when_false _ _ c tells in
@@ -57,13 +57,13 @@ Stands t at n = (m : ℕ) → m < n + 1 → IsSome (object_at (state_ago m t).re
 pub stands_now : (t : Trail) (at : ObjRef) → IsSome (object_at t.current.regions at) → Stands t at 0
 stands_now t at h m l = let z : m ≡ 0 = omega (arith, l) in subst (λ k. IsSome (object_at (state_ago k t).regions at)) (sym z) (subst (λ (w : HeapState). IsSome (object_at w.regions at)) (sym (now_is t)) h)
 
-pub born : (t : Trail) (at : ObjRef) (n : ℕ) (left : Undo) → n < retained t → Stands t at n → HasRecord t n left → made_by left at ≡ true → IsBirth t at (t.place - n)
-born t at n left lt s r c =
+pub making_is_birth : (t : Trail) (at : ObjRef) (n : ℕ) (left : Undo) → n < retained t → Stands t at n → HasRecord t n left → made_by left at ≡ true → IsBirth t at (t.place - n)
+making_is_birth t at n left lt s r c =
     let tells = record_makes r.0 (state_ago (n + 1) t) (state_ago n t) left at r.1 (s n (omega arith)) in
     record { ago = n; within = lt; place_is = refl; before = when_true _ _ c tells; since = s }
 
-pub unborn : (t : Trail) (at : ObjRef) (n : ℕ) (left : Undo) → Stands t at n → HasRecord t n left → made_by left at ≡ false → Stands t at (n + 1)
-unborn t at n left s r c =
+pub no_making_goes_further : (t : Trail) (at : ObjRef) (n : ℕ) (left : Undo) → Stands t at n → HasRecord t n left → made_by left at ≡ false → Stands t at (n + 1)
+no_making_goes_further t at n left s r c =
     let tells = record_makes r.0 (state_ago (n + 1) t) (state_ago n t) left at r.1 (s n (omega arith)) in
     let there = when_false _ _ c tells in
     λ m l. elim (cases_eq m (n + 1)) [

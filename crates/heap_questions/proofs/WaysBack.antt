@@ -10,7 +10,7 @@ use Rattle.heap_class.specs.declared.ObjRef.{ObjRef}
 use Rattle.heap_class.specs.Classes.{Class}
 use Rattle.hprof_text.specs.Image.{Image, DumpedObject, IsDumpable}
 use Rattle.hprof_text.proofs.Loops.{item_of_list_within}
-use Rattle.hprof_text.proofs.ViewedObjects.{here}
+use Rattle.hprof_text.proofs.ViewedObjects.{object_viewed_at_place}
 use Rattle.heap_questions.specs.Graph.{named, slot_names, slot_refers}
 use Rattle.heap_questions.specs.Hops.{AreHops, slots_of}
 use Rattle.heap_questions.specs.Referrers.{names_at}
@@ -70,8 +70,8 @@ by_register f e is l = go f.via refl
         absurd (omega (arith, from, l))
 
 -- what stands there keeps less
-pub lower : (image : Image) (nodes : List Node) (entries : List Entry) (queue : List Found) (k : ℕ) (f : Found) (e next : Entry) → IsQueueOf image nodes entries queue → (b : IsBySlot image queue k f e) → entry_of b.other ≡ next → next.from < e.from
-lower image nodes entries queue k f e next q b is =
+pub entry_by_slot_is_lower : (image : Image) (nodes : List Node) (entries : List Entry) (queue : List Found) (k : ℕ) (f : Found) (e next : Entry) → IsQueueOf image nodes entries queue → (b : IsBySlot image queue k f e) → entry_of b.other ≡ next → next.from < e.from
+entry_by_slot_is_lower image nodes entries queue k f e next q b is =
     elim (cases_lt next.from source_limit) [
       | inl lt ↦ let from = b.from in omega (arith, lt, from)
       | inr ge ↦ let c = by_slot image nodes entries queue b.parent b.other next q b.there is ge in let from = b.from in let other = c.from in let before = c.before in omega (arith, from, other, before)
@@ -146,7 +146,7 @@ first_naming image places nodes j k s id at kind words classes n lj lk placed ca
     let m = item_of_list_within nodes j lj in
     let o = item_of_list_within nodes k lk in
     let led : slice_get places j ≡ Some at = node_place image places nodes j m.0 n m.1 ∙ ap Some (sym (placed m.0 m.1)) in
-    let h = here image places j at kind words d many led (kinds j led) (slots j led) in
+    let h = object_viewed_at_place image places j at kind words d many led (kinds j led) (slots j led) in
     let e = object_of_node image places nodes x j n ex ∙ h.there in
     let is : id ≡ y = called o.0 o.1 ∙ node_at nodes y k o.0 ey o.1 in
     let F = subst (λ z. IsFirstSlotTo classes h.object z s) is (first h.object (sym h.same_kind) (sym h.same_words)) in

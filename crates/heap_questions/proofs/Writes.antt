@@ -18,7 +18,7 @@ use Rattle.heap_pins.specs.KeptCopies.{touched}
 use Rattle.heap_pins.specs.Walk.{TellsBefore, cell_state, dead_state, states_before}
 use Rattle.heap_pins.proofs.RecordCases.{sweep_touches_its_region}
 use Rattle.heap_questions.specs.Changes.{changed_by, made_by, slot_word}
-use Rattle.heap_questions.proofs.ToldObjects.{covered, is_there, none_there, reclaimed_none, state_there, sweep_was, told}
+use Rattle.heap_questions.proofs.ToldObjects.{covering_region_has_object, is_there, none_there, reclaimed_none, state_there, sweep_was, step_tells_before}
 
 -- ---- words and objects
 
@@ -39,20 +39,20 @@ unfolding slot_word
 no_word w at s e = ap (option_and_then (λ o. slice_get o.words s)) e
 
 -- the region of the place isn't touched, and there was an object
-untouched : (left : Undo) (before after : HeapState) (at : ObjRef) (s now : ℕ) → TellsBefore left before after → touched left ≢ Some at.region → cell_state (object_at before.regions at) ≢ 0 → slot_word after at s ≡ Some now → slot_word before at s ≡ Some now
-untouched left before after at s now t n c h =
+untouched_region_keeps_word : (left : Undo) (before after : HeapState) (at : ObjRef) (s now : ℕ) → TellsBefore left before after → touched left ≢ Some at.region → cell_state (object_at before.regions at) ≢ 0 → slot_word after at s ≡ Some now → slot_word before at s ≡ Some now
+untouched_region_keeps_word left before after at s now t n c h =
     let o = is_there (object_at before.regions at) c in
-    let p = covered before.regions after.regions at o.0 (t.others at.region n) o.1 in
+    let p = covering_region_has_object before.regions after.regions at o.0 (t.others at.region n) o.1 in
     word_of_object before at s o.0 o.1 ∙ ap (λ (l : List ℕ). slice_get l s) (sym p.2) ∙ sym (word_of_object after at s p.0 p.1) ∙ h
 
 -- an object is there after the step
-there : (after : HeapState) (at : ObjRef) (s now : ℕ) → slot_word after at s ≡ Some now → cell_state (object_at after.regions at) ≢ 0
-there after at s now h = let o = object_of_word after at s now h in state_there (object_at after.regions at) o.0 o.1
+word_means_object : (after : HeapState) (at : ObjRef) (s now : ℕ) → slot_word after at s ≡ Some now → cell_state (object_at after.regions at) ≢ 0
+word_means_object after at s now h = let o = object_of_word after at s now h in state_there (object_at after.regions at) o.0 o.1
 
 -- nothing is touched, and the states are as after the step
-plain : (left : Undo) (before after : HeapState) (at : ObjRef) (s now : ℕ) → TellsBefore left before after → touched left ≡ None → states_before left (λ b. cell_state (object_at after.regions b)) at ≡ cell_state (object_at after.regions at) → slot_word after at s ≡ Some now → slot_word before at s ≡ Some now
-plain left before after at s now t n c h =
-    untouched left before after at s now t (λ e. none-some at.region (sym n ∙ e)) (λ z. there after at s now h (sym (t.states at ∙ c) ∙ z)) h
+untouched_cell_keeps_word : (left : Undo) (before after : HeapState) (at : ObjRef) (s now : ℕ) → TellsBefore left before after → touched left ≡ None → states_before left (λ b. cell_state (object_at after.regions b)) at ≡ cell_state (object_at after.regions at) → slot_word after at s ≡ Some now → slot_word before at s ≡ Some now
+untouched_cell_keeps_word left before after at s now t n c h =
+    untouched_region_keeps_word left before after at s now t (λ e. none-some at.region (sym n ∙ e)) (λ z. word_means_object after at s now h (sym (t.states at ∙ c) ∙ z)) h
 
 -- ---- a word that was written
 
@@ -199,30 +199,30 @@ unfolding touched states_before
 record_tells e before after (Put a s old) at k now st h = write_tells before after a at s k old now (sym (ap (λ (w : HeapState). w.regions) (put_undone_is_before e before after (Put a s old) st a s old refl))) h
 record_tells e before after (Store a s old logged) at k now st h = write_tells before after a at s k old now (sym (ap (λ (w : HeapState). w.regions) (store_is e before after (Store a s old logged) st a s old logged refl))) h
 record_tells e before after (New a fresh m r old) at k now st h =
-    let t = told e before after (New a fresh m r old) st in
+    let t = step_tells_before e before after (New a fresh m r old) st in
     by_test ((a.region == at.region) && (fresh || (a.cell == at.cell))) (slot_word before at k ≡ Some now → ⊥) (slot_word before at k ≡ Some now)
     (λ y g. none-some now (sym (no_word before at k (none_there (object_at before.regions at) (t.states at ∙ new_state a at fresh m r old (λ b. cell_state (object_at after.regions b)) y))) ∙ g))
-    (λ n. plain (New a fresh m r old) before after at k now t refl (old_state a at fresh m r old (λ b. cell_state (object_at after.regions b)) n) h)
+    (λ n. untouched_cell_keeps_word (New a fresh m r old) before after at k now t refl (old_state a at fresh m r old (λ b. cell_state (object_at after.regions b)) n) h)
 record_tells e before after (Finish log) at k now st h =
-    let t = told e before after (Finish log) st in
-    untouched (Finish log) before after at k now t (λ q. none-some at.region q) (λ z. finish_state log at (λ b. cell_state (object_at after.regions b)) (there after at k now h) (sym (t.states at) ∙ z)) h
+    let t = step_tells_before e before after (Finish log) st in
+    untouched_region_keeps_word (Finish log) before after at k now t (λ q. none-some at.region q) (λ z. finish_state log at (λ b. cell_state (object_at after.regions b)) (word_means_object after at k now h) (sym (t.states at) ∙ z)) h
 record_tells e before after (Sweep region dead) at k now st h =
     elim (cases_eq at.region region) [
       | inl r ↦
           let o = object_of_word after at k now h in
           word_of_object before at k o.0 (sweep_was e before after region dead at o.0 st r o.1) ∙ o.2
       | inr r ↦
-          let t = told e before after (Sweep region dead) st in
-          untouched (Sweep region dead) before after at k now t (λ q. r (sym (sweep_touches_its_region region dead at.region q))) (λ z. there after at k now h (sym (t.states at ∙ sweep_state region dead at (λ b. cell_state (object_at after.regions b)) r) ∙ z)) h
+          let t = step_tells_before e before after (Sweep region dead) st in
+          untouched_region_keeps_word (Sweep region dead) before after at k now t (λ q. r (sym (sweep_touches_its_region region dead at.region q))) (λ z. word_means_object after at k now h (sym (t.states at ∙ sweep_state region dead at (λ b. cell_state (object_at after.regions b)) r) ∙ z)) h
     ]
 record_tells e before after (Reclaim region storage) at k now st h =
     elim (cases_eq at.region region) [
       | inl r ↦ let o = object_of_word after at k now h in absurd (reclaimed_none e before after region storage at o.0 st r o.1)
       | inr r ↦
-          let t = told e before after (Reclaim region storage) st in
-          untouched (Reclaim region storage) before after at k now t (λ q. r (sym (same_Some region at.region q))) (λ z. there after at k now h (sym (t.states at ∙ reclaim_state region storage at (λ b. cell_state (object_at after.regions b)) r) ∙ z)) h
+          let t = step_tells_before e before after (Reclaim region storage) st in
+          untouched_region_keeps_word (Reclaim region storage) before after at k now t (λ q. r (sym (same_Some region at.region q))) (λ z. word_means_object after at k now h (sym (t.states at ∙ reclaim_state region storage at (λ b. cell_state (object_at after.regions b)) r) ∙ z)) h
     ]
-record_tells e before after left at k now st h = plain left before after at k now (told e before after left st) refl refl h
+record_tells e before after left at k now st h = untouched_cell_keeps_word left before after at k now (step_tells_before e before after left st) refl refl h
 
 -- ---- whether an object was made
 
@@ -233,35 +233,35 @@ some_before : (before : HeapState) (at : ObjRef) → cell_state (object_at befor
 some_before before at n = let o = is_there (object_at before.regions at) n in subst (λ (x : Option Object). IsSome x) (sym o.1) refl
 
 -- an object is there after the step
-stands : (after : HeapState) (at : ObjRef) → IsSome (object_at after.regions at) → (o : Object) × (object_at after.regions at ≡ Some o)
-stands after at h = go (object_at after.regions at) refl h
+some_object_stands : (after : HeapState) (at : ObjRef) → IsSome (object_at after.regions at) → (o : Object) × (object_at after.regions at ≡ Some o)
+some_object_stands after at h = go (object_at after.regions at) refl h
   where
     go : (x : Option Object) → object_at after.regions at ≡ x → IsSome x → (o : Object) × (object_at after.regions at ≡ Some o)
     go None e h = absurd (false≢true h)
     go (Some o) e h = (o, e)
 
-stood : (left : Undo) (before after : HeapState) (at : ObjRef) → TellsBefore left before after → states_before left (λ b. cell_state (object_at after.regions b)) at ≡ cell_state (object_at after.regions at) → IsSome (object_at after.regions at) → IsSome (object_at before.regions at)
-stood left before after at t c h = let o = stands after at h in some_before before at (λ z. state_there (object_at after.regions at) o.0 o.1 (sym (t.states at ∙ c) ∙ z))
+object_stood_before : (left : Undo) (before after : HeapState) (at : ObjRef) → TellsBefore left before after → states_before left (λ b. cell_state (object_at after.regions b)) at ≡ cell_state (object_at after.regions at) → IsSome (object_at after.regions at) → IsSome (object_at before.regions at)
+object_stood_before left before after at t c h = let o = some_object_stands after at h in some_before before at (λ z. state_there (object_at after.regions at) o.0 o.1 (sym (t.states at ∙ c) ∙ z))
 
 pub record_makes : (e : Event) (before after : HeapState) (left : Undo) (at : ObjRef) → IsStep e before after left → IsSome (object_at after.regions at) → TellsMade (made_by left at) before at
 unfolding states_before
 record_makes e before after (New a fresh m r old) at st h =
-    let t = told e before after (New a fresh m r old) st in
+    let t = step_tells_before e before after (New a fresh m r old) st in
     by_test ((a.region == at.region) && (fresh || (a.cell == at.cell))) (object_at before.regions at ≡ None) (IsSome (object_at before.regions at))
     (λ y. none_there (object_at before.regions at) (t.states at ∙ new_state a at fresh m r old (λ b. cell_state (object_at after.regions b)) y))
-    (λ n. stood (New a fresh m r old) before after at t (old_state a at fresh m r old (λ b. cell_state (object_at after.regions b)) n) h)
+    (λ n. object_stood_before (New a fresh m r old) before after at t (old_state a at fresh m r old (λ b. cell_state (object_at after.regions b)) n) h)
 record_makes e before after (Finish log) at st h =
-    let t = told e before after (Finish log) st in
-    let o = stands after at h in
+    let t = step_tells_before e before after (Finish log) st in
+    let o = some_object_stands after at h in
     some_before before at (λ z. finish_state log at (λ b. cell_state (object_at after.regions b)) (state_there (object_at after.regions at) o.0 o.1) (sym (t.states at) ∙ z))
 record_makes e before after (Sweep region dead) at st h =
     elim (cases_eq at.region region) [
-      | inl r ↦ let o = stands after at h in subst (λ (x : Option Object). IsSome x) (sym (sweep_was e before after region dead at o.0 st r o.1)) refl
-      | inr r ↦ stood (Sweep region dead) before after at (told e before after (Sweep region dead) st) (sweep_state region dead at (λ b. cell_state (object_at after.regions b)) r) h
+      | inl r ↦ let o = some_object_stands after at h in subst (λ (x : Option Object). IsSome x) (sym (sweep_was e before after region dead at o.0 st r o.1)) refl
+      | inr r ↦ object_stood_before (Sweep region dead) before after at (step_tells_before e before after (Sweep region dead) st) (sweep_state region dead at (λ b. cell_state (object_at after.regions b)) r) h
     ]
 record_makes e before after (Reclaim region storage) at st h =
     elim (cases_eq at.region region) [
-      | inl r ↦ let o = stands after at h in absurd (reclaimed_none e before after region storage at o.0 st r o.1)
-      | inr r ↦ stood (Reclaim region storage) before after at (told e before after (Reclaim region storage) st) (reclaim_state region storage at (λ b. cell_state (object_at after.regions b)) r) h
+      | inl r ↦ let o = some_object_stands after at h in absurd (reclaimed_none e before after region storage at o.0 st r o.1)
+      | inr r ↦ object_stood_before (Reclaim region storage) before after at (step_tells_before e before after (Reclaim region storage) st) (reclaim_state region storage at (λ b. cell_state (object_at after.regions b)) r) h
     ]
-record_makes e before after left at st h = stood left before after at (told e before after left st) refl h
+record_makes e before after left at st h = object_stood_before left before after at (step_tells_before e before after left st) refl h

@@ -47,9 +47,9 @@ state_there t n l = slice_get-get_or (t.current ∷ t.past) n t.current (omega (
 back_is : (e : Event) (before x : HeapState) (left : Undo) → IsStep e before x left → undone left x ≡ before
 back_is e before x left s = ap₂ (λ (u : Undo) (v : HeapState). undone u v) s.recorded s.gave ∙ undo_restores e before s.legal s.accepted
 
-pub opened : (t : Trail) (w : HeapState) (p : PinContents) → w ≡ t.current → IsFreshPin p w → IsPinAgo p t 0
+pub fresh_pin_shows_current_state : (t : Trail) (w : HeapState) (p : PinContents) → w ≡ t.current → IsFreshPin p w → IsPinAgo p t 0
 unfolding state_ago
-opened t w p now h = subst (λ (v : HeapState). IsWalked p v 0 (v ∷ t.past)) now (h t.past)
+fresh_pin_shows_current_state t w p now h = subst (λ (v : HeapState). IsWalked p v 0 (v ∷ t.past)) now (h t.past)
 
 shows_ago : (t : Trail) (n : ℕ) (w : HeapState) (p : PinContents) → w ≡ t.current → IsPinAgo p t n → ShowsState p (state_ago n t) w
 shows_ago t n w p now h = subst (ShowsState p (state_ago n t)) (sym now) (property_of_first_state (ShowsState p (state_ago n t)) n t.current t.past h.shows)
@@ -181,9 +181,9 @@ of_seen P p w at s h = go (object_seen p w.regions at) s.1 h
     go (Some o) s h = h
 
 -- the test of a write tells whether it is one
-tested : (t : Trail) (n k s : ℕ) (left : Undo) (at : ObjRef) (o : Object) (old place : ℕ) → place ≡ t.place - n → HasRecord t n left → overwritten left s ≡ Some (at, old) → object_at (state_ago n t).regions at ≡ Some o → s < length o.words
+write_test_is_right : (t : Trail) (n k s : ℕ) (left : Undo) (at : ObjRef) (o : Object) (old place : ℕ) → place ≡ t.place - n → HasRecord t n left → overwritten left s ≡ Some (at, old) → object_at (state_ago n t).regions at ≡ Some o → s < length o.words
     → AreWritesAgo t k s n (changing_write k s place old (shown (state_ago n t).regions (at, o)))
-tested t n k s left at o old place is r named here l = go (is_of_class o.kind k && not (x.old == x.new)) refl
+write_test_is_right t n k s left at o old place is r named here l = go (is_of_class o.kind k && not (x.old == x.new)) refl
   where
     x : SlotWrite
     x = record { place = place; id = id_of (state_ago n t).regions at; old = old; new = slice_index_or o.words s 0 }
@@ -243,7 +243,7 @@ writes_ago t n k s left w p place is h r = go (overwritten left s) refl
     go (Some a) e =
         let o = written_there r.0 (state_ago (n + 1) t) (state_ago n t) left s a.0 a.1 r.1 e in
         subst (λ (d : Option DumpedObject). AreWritesAgo t k s n (changing_write k s place a.1 (seen_or d))) (sym (object_seen_as_dump_shows p (state_ago n t) w a.0 o.0 h.1 o.1))
-        (tested t n k s left a.0 o.0 a.1 place is r e o.1 o.2)
+        (write_test_is_right t n k s left a.0 o.0 a.1 place is r e o.1 o.2)
 
 -- ---- step by step
 

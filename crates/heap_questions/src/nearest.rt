@@ -23,8 +23,8 @@ pub(crate) struct Start {
     pub(crate) distance: u32,
 }
 
-// Returns the `most` starts that name what is nearest, of those as near the first, in this order, or as many as name what isn't far.
-// The nodes must be the view's. Fails if an allocation fails. Reads each object once that a register names.
+// Returns the `most` starts that name what is nearest, of those as near the first, in this order, or as many as name what isn't
+// far. The nodes must be the view's. Fails if an allocation fails. Reads each object once that a register names.
 pub(crate) fn nearest_starts<V: View>(
     alloc: Global,
     view: &V,

@@ -50,7 +50,7 @@ pub fn slot_kind(classes: &FirstClasses<'_>, kind: ObjKind, words: u64, slot: u6
     ensures { slice_get (slot_kinds_of classes.now kind words) slot ≡ Some result }
 {
     match kind {
-        ObjKind::Instance(class) => classes.slots(class)[slot as usize],
+        ObjKind::Instance(class) => classes.slots(class as u64)[slot as usize],
         ObjKind::Array(_) => Kind::Object,
         ObjKind::Prim(kind) => kind,
     }

@@ -31,7 +31,7 @@ pub(crate) fn is_reference_slot(
     ensures { result ≡ slot_refers classes.now kind slot }
 {
     match kind {
-        ObjKind::Instance(class) => classes.slots(class)[slot as usize].is_reference(),
+        ObjKind::Instance(class) => classes.slots(class as u64)[slot as usize].is_reference(),
         ObjKind::Array(_) => true,
         ObjKind::Prim(kind) => kind.is_reference(),
     }

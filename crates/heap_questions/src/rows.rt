@@ -70,8 +70,8 @@ pub fn value_size(ids: IdSize, classes: &FirstClasses<'_>, kind: ObjKind, words:
     match kind {
         ObjKind::Instance(class) => {
             // Its contract bounds the number of slots.
-            let _slots = classes.slots(class);
-            classes.instance_size(ids, class)
+            let _slots = classes.slots(class as u64);
+            classes.instance_size(ids, class as u64)
         }
         ObjKind::Array(_) => ids.bytes() * words,
         ObjKind::Prim(kind) => kind.width(ids) * words,

@@ -24,7 +24,7 @@ pub(crate) fn is_of_class(kind: ObjKind, class: ClassNo) -> bool
     ensures { result ≡ is_of_class kind class }
 {
     match kind {
-        ObjKind::Instance(own) | ObjKind::Array(own) => own == class,
+        ObjKind::Instance(own) | ObjKind::Array(own) => own as u64 == class,
         ObjKind::Prim(_) => false,
     }
 }

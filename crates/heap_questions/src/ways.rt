@@ -46,7 +46,8 @@ pub(crate) fn add_way<V: View>(
     Ok(())
 }
 
-// Returns the first slot of the object with this id that leads to what is one step nearer than `left`. The nodes must be the view's.
+// Returns the first slot of the object with this id that leads to what is one step nearer than `left`. The nodes must be the
+// view's.
 fn nearer<V: View>(view: &V, nodes: &NodeList, table: &[u32], id: u64, left: u32) -> Option<Hop>
     requires nodes { AreNodes (V.image view.now) (V.places view.now) nodes.now }
     requires near { left < far }

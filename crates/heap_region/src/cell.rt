@@ -1,9 +1,10 @@
-//! Headers of cells, in sixteen bytes each.
+//! Headers of cells, in eight bytes each.
 ghost use Rattle.std.specs.Prelude.{◌≡◌, ◌≤◌, Some, None, IsSome, option_map};
+ghost use Rattle.heap_region.specs.KindNumbers.{kind_number, kind_numbered, sort_numbered};
 ghost use Rattle.heap_region.specs.Layout.{header_live, with_bit};
 ghost use Rattle.heap_region.specs.Limits.{heap_words};
 
-use heap_class::{ClassNo, Kind, ObjKind};
+use heap_class::{Kind, ObjKind};
 use std::marker::Model;
 use std::mem::size_of;
 
@@ -38,21 +39,22 @@ pub(crate) enum Sort {
     Prim,
 }
 
+// The number of sorts.
+const SORTS: u32 = 4;
+
 // A cell: the header of the object in it, or none if it is free. Contracts see the header.
 #[derive(Clone, Copy)]
 pub(crate) struct Cell {
-    // The class of an instance or of an array of references, else 0.
-    class: ClassNo,
-    len: u32,
-    sort: Sort,
-    // The kind of an array's values, else Object.
-    kind: Kind,
+    // The number of slots, times the number of sorts, and the number of the sort.
+    slots_and_sort: u32,
+    // The class of an instance or of an array of references, the number of the kind of an array's values, else 0.
+    number: u16,
     live: bool,
     mark: bool,
 }
 
 // A region has up to 256 of them.
-const _: () = prove!(size_of::<Cell>() <= 16);
+const _: () = prove!(size_of::<Cell>() <= 8);
 
 impl Model for Cell {
     ghost use Rattle.std.specs.Prelude.{◌≡◌, Option};
@@ -77,13 +79,50 @@ impl Default for Cell {
     // Returns a free cell.
     fn default() -> Cell {
         Cell {
-            class: 0,
-            len: 0,
-            sort: Sort::Free,
-            kind: Kind::Object,
+            slots_and_sort: 0,
+            number: 0,
             live: false,
             mark: false,
         }
+    }
+}
+
+// Returns the number of a kind.
+#[inline(always)]
+fn kind_number(kind: Kind) -> u16
+    ensures { result ≡ kind_number kind }
+{
+    kind as u16
+}
+
+// Returns the kind that has a number, or Object if none has it.
+#[inline(always)]
+fn kind_numbered(number: u16) -> Kind
+    ensures { result ≡ kind_numbered number }
+{
+    match number {
+        1 => Kind::Boolean,
+        2 => Kind::Char,
+        3 => Kind::Float,
+        4 => Kind::Double,
+        5 => Kind::Byte,
+        6 => Kind::Short,
+        7 => Kind::Int,
+        8 => Kind::Long,
+        _ => Kind::Object,
+    }
+}
+
+// Returns the sort that has a number.
+#[inline(always)]
+fn sort_numbered(number: u32) -> Sort
+    ensures { result ≡ sort_numbered number }
+{
+    match number {
+        0 => Sort::Free,
+        1 => Sort::Instance,
+        2 => Sort::Array,
+        _ => Sort::Prim,
     }
 }
 
@@ -94,16 +133,14 @@ impl Cell {
         requires { header.len ≤ heap_words }
         ensures { result ≡ Some header }
     {
-        let (sort, class, kind) = match header.kind {
-            ObjKind::Instance(class) => (Sort::Instance, class, Kind::Object),
-            ObjKind::Array(class) => (Sort::Array, class, Kind::Object),
-            ObjKind::Prim(kind) => (Sort::Prim, 0, kind),
+        let (sort, number) = match header.kind {
+            ObjKind::Instance(class) => (Sort::Instance, class),
+            ObjKind::Array(class) => (Sort::Array, class),
+            ObjKind::Prim(kind) => (Sort::Prim, kind_number(kind)),
         };
         Cell {
-            class,
-            len: header.len as u32,
-            sort,
-            kind,
+            slots_and_sort: header.len as u32 * SORTS + sort as u32,
+            number,
             live: header.live,
             mark: header.mark,
         }
@@ -114,15 +151,15 @@ impl Cell {
     pub(crate) fn header(&self) -> Option<Header>
         ensures { result ≡ self.now }
     {
-        let kind = match self.sort {
+        let kind = match sort_numbered(self.slots_and_sort % SORTS) {
             Sort::Free => return None,
-            Sort::Instance => ObjKind::Instance(self.class),
-            Sort::Array => ObjKind::Array(self.class),
-            Sort::Prim => ObjKind::Prim(self.kind),
+            Sort::Instance => ObjKind::Instance(self.number),
+            Sort::Array => ObjKind::Array(self.number),
+            Sort::Prim => ObjKind::Prim(kind_numbered(self.number)),
         };
         Some(Header {
             kind,
-            len: self.len as usize,
+            len: (self.slots_and_sort / SORTS) as usize,
             live: self.live,
             mark: self.mark,
         })

@@ -80,6 +80,16 @@ impl FrozenRegion {
         }
     }
 
+    /// Returns a copy of the copy. Fails if the allocation fails.
+    pub fn copied(&self, alloc: Global) -> Result<FrozenRegion, AllocError>
+        ensures { IfOk result (λ f. f ≡ self.now) }
+    {
+        Ok(FrozenRegion {
+            block: self.block.copied(alloc)?,
+            cell_size: self.cell_size,
+        })
+    }
+
     /// Returns the size of each cell in words.
     pub fn cell_size(&self) -> u64
         ensures value { result ≡ self.now.cell_size }

@@ -445,8 +445,8 @@ impl Regions {
         self.totals = self.totals.prior();
     }
 
-    /// Prepares a region for many reads: each takes longer after a turn, until the region is changed. Changes nothing that contracts
-    /// see. Takes constant time, and no memory.
+    /// Prepares a region for many reads: each takes longer after a turn, until the region is changed. Changes nothing that
+    /// contracts see. Takes constant time, and no memory.
     pub fn settle(&mut self, region: u64)
         ensures { self.new ≡ self.old }
     {

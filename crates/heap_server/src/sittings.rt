@@ -21,8 +21,8 @@ use std::sync::atomic::{AtomicBool, Ordering};
 use std::thread::{PromisedHandle, Scope, Threads};
 use std::time::Clock;
 
-/// The size of the stack of a thread that serves sessions, in bytes. A line touches some 140 KB of it if Rattle's own compiler built
-/// the program, and less if LLVM did.
+/// The size of the stack of a thread that serves sessions, in bytes. A line touches some 140 KB of it if Rattle's own compiler
+/// built the program, and less if LLVM did.
 pub(crate) const STACK_SIZE: usize = 262_144;
 
 /// Returns as many words as there are seats, none of them set. The thread of a session sets its own as the last thing that it does;

@@ -1,6 +1,6 @@
 -- What the calls on one pin give.
 use Rattle.std.proofs.Common.{◌≡◌, ℕ, List, ◌<◌, ◌≤◌, Bool, true, false, sym, ap, subst, ◌∙◌, arith, refl, inl, inr, Some, None, Result, Ok, Err}
-use Rattle.std.specs.Prelude.{nat_lt, slice_index_or, is_some, if◌then◌else◌, IsSome, OnErr, OnOk}
+use Rattle.std.specs.Prelude.{nat_lt, slice_index_or, is_some, if◌then◌else◌, OnOk}
 use Rattle.std.specs.Result.{is_err}
 use Rattle.heap_class.specs.declared.LostCause.{LostCause}
 use Rattle.heap_class.specs.declared.LostCause.TheVariants.{Rewound, Memory}
@@ -70,14 +70,6 @@ pub touched_is_noted : (left : Undo) (r : ℕ) → touched left ≡ Some r → n
 unfolding touched noted
 touched_is_noted (New at fresh m k old) r t = cc
 touched_is_noted left r t = t
-
--- a step that touches no region is never refused
-pub untouching_step_is_kept : {A E P : Type 0} (x : Result A E) (left : Undo) → touched left ≡ None → OnErr x (IsSome (touched left)) → OnOk x P → P
-untouching_step_is_kept (Ok a) left none refused p = p
-untouching_step_is_kept {A} {E} {P} (Err e) left none refused p = absurd (no_region (subst IsSome none refused))
-  where
-    no_region : IsSome {T = ℕ} None → ⊥
-    no_region e = cc
 
 -- a pin with a place for the copy of each region has one for this
 pub held_pin_has_region_place : (n r : ℕ) (h : Held) → IsSizedHeld n h → r < n → IsRegionWithin r h

@@ -23,9 +23,9 @@ pin_list_is_numbered : (ids : IdSize) (states : List HeapState) (place next : �
 pin_list_is_numbered ids states place next w [] h = All-nil _
 pin_list_is_numbered ids states place next w (s ∷ ss) h = All-cons {X = ℕ × PinState} (λ e. e.0 < next) (seen w s) _ h.1 (pin_list_is_numbered ids states place next w ss h.3)
 
-pub numbered : (ids : IdSize) (w : HeapState) (ring : Buffer Undo) (place next : ℕ) (ss : List NumberedPin) → IsPinning ids w ring place next ss → AreNumbered (pins_of w next ss)
+pub pinning_pins_are_numbered : (ids : IdSize) (w : HeapState) (ring : Buffer Undo) (place next : ℕ) (ss : List NumberedPin) → IsPinning ids w ring place next ss → AreNumbered (pins_of w next ss)
 unfolding pins_of
-numbered ids w ring place next ss p = pin_list_is_numbered ids (w ∷ past_of w ring.items) place next w ss p.held
+pinning_pins_are_numbered ids w ring place next ss p = pin_list_is_numbered ids (w ∷ past_of w ring.items) place next w ss p.held
 
 dumpable_pin : (ids : IdSize) (w : HeapState) (past : List HeapState) (place : ℕ) (h : Held) → HoldsAt ids (w ∷ past) place h → IsDumpablePin (state_of w h)
 unfolding state_of

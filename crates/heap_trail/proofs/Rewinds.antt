@@ -35,8 +35,8 @@ place_replied_by_rewind : (n : ℕ) (m : Machine) (place : ℕ) → (acted m (Re
 unfolding acted
 place_replied_by_rewind n m place h = place_replied_unless_refused (rewind_refusal n m.trail) n m place h
 
-restored : (m : Machine) (e : Event) (n : Machine) (a : Answer) → 1 ≤ m.keep → acted m (Step e) ≡ (n, Answered a) → IsBackAt m (acted n (Rewind 1))
-restored m e n a some done =
+rewind_restores_step : (m : Machine) (e : Event) (n : Machine) (a : Answer) → 1 ≤ m.keep → acted m (Step e) ≡ (n, Answered a) → IsBackAt m (acted n (Rewind 1))
+rewind_restores_step m e n a some done =
     let b = answered_step_leads_back m e n a some done in
     (b.0, place_replied_by_rewind 1 n m.trail.place b.1, b.1)
 
@@ -51,7 +51,7 @@ restored_losing m n pins r =
 
 pub undoes_step : (m : Machine) → UndoesStep m
 unfolding acted_under
-undoes_step m e Granted n a some done = restored m e n a some done
+undoes_step m e Granted n a some done = rewind_restores_step m e n a some done
 undoes_step m e Denied n a some done = absurd (clash (ap (λ (p : Machine × Reply). p.1) done))
   where
     clash : {r : Refusal} → Refused r ≡ Answered a → ⊥
@@ -60,7 +60,7 @@ undoes_step m e (LosesPins pins) n a some done =
     let r = acted m (Step e) in
     let answered : r.1 ≡ Answered a = ap (λ (p : Machine × Reply). p.1) done in
     let is : record r.0 { pins = with_lost pins r.0.pins } ≡ n = ap (λ (p : Machine × Reply). p.0) done in
-    subst (λ x. IsBackAt m (acted x (Rewind 1))) is (restored_losing m r.0 (with_lost pins r.0.pins) (restored m e r.0 a some (λ i. (r.0, answered i))))
+    subst (λ x. IsBackAt m (acted x (Rewind 1))) is (restored_losing m r.0 (with_lost pins r.0.pins) (rewind_restores_step m e r.0 a some (λ i. (r.0, answered i))))
 
 -- ---- several steps
 

@@ -10,8 +10,8 @@ use Rattle.heap_trail.proofs.WithoutDumps.{goes_as_without_dumps}
 use Rattle.heap_trail.proofs.GivenText.{gives_text}
 use Rattle.heap_trail.proofs.KeptPins.{keeps_pin}
 
-pub headline : (m : Machine) (actions : List (Action × Allocation)) → Headline m actions
-headline m actions = record {
+pub headline_of_machines : (m : Machine) (actions : List (Action × Allocation)) → Headline m actions
+headline_of_machines m actions = record {
   undone = undoes_step (machine_after m actions);
   rewound = (rewinds_retained (machine_after m actions), rewinds_in_parts (machine_after m actions));
   recalled = rewinds_over (machine_after m actions);

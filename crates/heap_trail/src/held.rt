@@ -6,11 +6,12 @@ ghost use Rattle.heap_step.specs.declared.Event.{Event};
 ghost use Rattle.heap_step.specs.Laws.{IsStep};
 ghost use Rattle.hprof_text.specs.Laws.{piece_size_limit};
 ghost use Rattle.heap_pins.specs.KeptCopies.{touched};
+ghost use Rattle.heap_pins.specs.SharedCopies.{SharesBefore};
 ghost use Rattle.heap_trail.specs.OpenPins.{CanGive, HasGiven, IsNextPiece, IsMade, IsSizedPin, IsRegionWithin, MayCount, MayKeep, NeedsCopy, RefusesPiece, held_advanced, is_settled, held_place, slot_after_rewind};
 ghost use Rattle.heap_trail.specs.Views.{CanShow, IsViewBeside, RefusesView};
 
 use heap_class::{IdSize, LostCause, ObjRef, Refusal};
-use heap_pins::{Pin, PinView};
+use heap_pins::{Pin, PinView, RegionCopy};
 use heap_step::Undo;
 use heap_world::World;
 use hprof_text::{Cursor, Piece, piece_from};
@@ -72,17 +73,25 @@ impl NumberedPin {
         }
     }
 
-    // Keeps what the step that left this record and led to this state overwrote in this region. The pin is lost if memory for
-    // it can't be allocated.
+    // Keeps what the step that left this record and led to this state overwrote in this region: a copy, which pins share. The pin
+    // is lost if memory for it can't be allocated.
     #[inline(always)]
-    pub(crate) fn keep(&mut self, world: &World, left: &Undo, region: u64)
+    pub(crate) fn keep(
+        &mut self,
+        world: &World,
+        left: &Undo,
+        region: u64,
+        shared: &mut Option<RegionCopy>,
+    )
         requires touched { touched left.now ≡ Some region }
         requires step { (e : Event) × (before : HeapState) × IsStep e before world.now left.now }
         requires sized { IsSizedPin (length world.now.regions) self.old }
-        ensures { MayKeep left.now world.now self.old self.new }
+        requires shared { SharesBefore left.now world.now shared.old }
+        ensures kept { MayKeep left.now world.now self.old self.new }
+        ensures shared { SharesBefore left.now world.now shared.new }
     {
         if !self.is_settled(region) {
-            self.copy_region(world, left);
+            self.copy_region(world, left, shared);
         }
     }
 
@@ -94,9 +103,7 @@ impl NumberedPin {
         ensures { MayKeep left.now world.now self.old self.new }
     {
         match &mut self.held {
-            Held::Kept { pin, .. } => {
-                let _ = pin.keep(world, left);
-            }
+            Held::Kept { pin, .. } => pin.note(left),
             Held::Lost { .. } => {}
         }
     }
@@ -115,18 +122,20 @@ impl NumberedPin {
         }
     }
 
-    // Copies the region that the step touched, as it was before. The pin must have no copy of it, and is lost if memory for the
-    // copy can't be allocated.
+    // Keeps a copy of the region that the step touched, as it was before, which pins share. The pin must have no copy of it, and
+    // is lost if memory for the copy can't be allocated.
     #[inline(never)]
-    fn copy_region(&mut self, world: &World, left: &Undo)
+    fn copy_region(&mut self, world: &World, left: &Undo, shared: &mut Option<RegionCopy>)
         requires step { (e : Event) × (before : HeapState) × IsStep e before world.now left.now }
         requires sized { IsSizedPin (length world.now.regions) self.old }
         requires needed { NeedsCopy left.now self.old.held }
-        ensures { MayKeep left.now world.now self.old self.new }
+        requires shared { SharesBefore left.now world.now shared.old }
+        ensures kept { MayKeep left.now world.now self.old self.new }
+        ensures shared { SharesBefore left.now world.now shared.new }
     {
         let place = self.place();
         let lost = match &mut self.held {
-            Held::Kept { pin, .. } => pin.keep(world, left).is_err(),
+            Held::Kept { pin, .. } => pin.keep(world, left, shared).is_err(),
             Held::Lost { .. } => false,
         };
         if lost {

@@ -197,8 +197,8 @@ fn keep_and_add(pins: &mut [NumberedPin], world: &World, records: &mut RecordRin
     records.push_front(left);
 }
 
-// Has each pin keep what it needs of the step that left this record and led to this state. A pin is lost if memory for it can't
-// be allocated.
+// Has each pin keep what it needs of the step that left this record and led to this state. The pins share the copy of a region.
+// A pin is lost if memory for it can't be allocated.
 fn keep_each(pins: &mut [NumberedPin], world: &World, left: &Undo)
     requires step { (e : Event) × (before : HeapState) × IsStep e before world.now left.now }
     requires sized { EachSized (length world.now.regions) pins.old }
@@ -206,8 +206,9 @@ fn keep_each(pins: &mut [NumberedPin], world: &World, left: &Undo)
 {
     match touched_region(left) {
         Some(region) => {
+            let mut shared = None;
             for i in 0..pins.len() {
-                pins[i].keep(world, left, region);
+                pins[i].keep(world, left, region, &mut shared);
             }
         }
         None => note_each(pins, world, left),
@@ -274,7 +275,7 @@ impl Machine {
         })
     }
 
-    /// Takes a step and keeps its record, in place of the oldest if `keep` are there. Fails with ChronicleFull at place 2^62,
+    /// Takes a step and keeps its record, instead of the oldest if `keep` are there. Fails with ChronicleFull at place 2^62,
     /// or as the event does; nothing has changed then. A pin is lost if memory for what the step overwrote can't be
     /// allocated.
     ///

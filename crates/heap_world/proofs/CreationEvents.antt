@@ -252,9 +252,9 @@ unfolding blank_object new_object
 blank_new kind n w = refl
 
 -- the parts of a heap after a new object
-pub made : (m r n x : ℕ) (kind : ObjKind) (mark : Bool) (w : HeapState) (at : ObjRef) (fresh : Bool) (s : RegionPool) (rs : List ℕ) → mark ≡ is_marking w.phase → new_place n (pool_of w) ≡ Some (at, fresh)
+pub parts_of_made_heap : (m r n x : ℕ) (kind : ObjKind) (mark : Bool) (w : HeapState) (at : ObjRef) (fresh : Bool) (s : RegionPool) (rs : List ℕ) → mark ≡ is_marking w.phase → new_place n (pool_of w) ≡ Some (at, fresh)
     → s ≡ allocated at fresh (blank_object kind n mark) (pool_of w) → x ≡ id_of s.regions at → rs ≡ slice_set w.registers (register_index m r) x → record (with_pool s w) { registers = rs } ≡ after_new m r kind n w
-made m r n x kind mark w at fresh s rs marked place e id g =
+parts_of_made_heap m r n x kind mark w at fresh s rs marked place e id g =
     ap (λ (xs : List ℕ). record (with_pool s w) { registers = xs }) g
     ∙ ap (λ y. with_register m r y (with_pool s w)) id
     ∙ ap (λ (t : RegionPool). with_register m r (id_of t.regions at) (with_pool t w)) (e ∙ ap (λ o. allocated at fresh o (pool_of w)) (ap (blank_object kind n) marked ∙ blank_new kind n w))
@@ -269,12 +269,12 @@ new_object_keeps_heap_sound m r n room kind w at fresh h k e = legal_state_of_ro
 
 pub parts_of_new_object_sound : (w v : HeapState) (m r n x room : ℕ) (kind : ObjKind) (mark : Bool) (at : ObjRef) (fresh : Bool) (s : RegionPool) (rs : List ℕ) → IsSoundHeap w room → w ≡ v → HasKind v.classes kind n → mark ≡ is_marking w.phase → new_place n (pool_of w) ≡ Some (at, fresh)
     → s ≡ allocated at fresh (blank_object kind n mark) (pool_of w) → x ≡ id_of s.regions at → rs ≡ slice_set w.registers (register_index m r) x → IsSoundHeap (record (with_pool s w) { registers = rs }) room
-parts_of_new_object_sound w v m r n x room kind mark at fresh s rs h e k marked place f id g = subst (λ (u : HeapState). IsSoundHeap u room) (sym (made m r n x kind mark w at fresh s rs marked place f id g))
+parts_of_new_object_sound w v m r n x room kind mark at fresh s rs h e k marked place f id g = subst (λ (u : HeapState). IsSoundHeap u room) (sym (parts_of_made_heap m r n x kind mark w at fresh s rs marked place f id g))
     (new_object_keeps_heap_sound m r n room kind w at fresh h (subst (λ (u : HeapState). HasKind u.classes kind n) (sym e) k) place)
 
 pub parts_of_new_object_make_state : (w v : HeapState) (m r n x : ℕ) (kind : ObjKind) (mark : Bool) (at : ObjRef) (fresh : Bool) (s : RegionPool) (rs : List ℕ) → w ≡ v → mark ≡ is_marking w.phase → new_place n (pool_of w) ≡ Some (at, fresh)
     → s ≡ allocated at fresh (blank_object kind n mark) (pool_of w) → x ≡ id_of s.regions at → rs ≡ slice_set w.registers (register_index m r) x → record (with_pool s w) { registers = rs } ≡ after_new m r kind n v
-parts_of_new_object_make_state w v m r n x kind mark at fresh s rs e marked place f id g = made m r n x kind mark w at fresh s rs marked place f id g ∙ ap (after_new m r kind n) e
+parts_of_new_object_make_state w v m r n x kind mark at fresh s rs e marked place f id g = parts_of_made_heap m r n x kind mark w at fresh s rs marked place f id g ∙ ap (after_new m r kind n) e
 
 -- ---- an object is undone
 

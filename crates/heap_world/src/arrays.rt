@@ -1,12 +1,13 @@
 //! Arrays and their classes.
-ghost use Rattle.std.specs.Prelude.{◌≡◌, Some, IfErr, OnOk};
+ghost use Rattle.std.specs.Prelude.{◌≡◌, ◌<◌, Some, IfErr, OnOk};
 ghost use Rattle.heap_class.specs.Classes.{array_class};
+ghost use Rattle.heap_class.specs.Limits.{class_limit};
 ghost use Rattle.heap_class.specs.declared.ObjKind.TheVariants.{Array, Prim};
 ghost use Rattle.heap_world.specs.Legal.{MayHold};
 ghost use Rattle.heap_world.specs.Events.{new_array_refusal, new_prim_refusal, IsNewClass, IsNewObject};
 
 use super::{Created, World};
-use heap_class::{ClassNo, Kind, Name, ObjKind, Refusal};
+use heap_class::{ClassNo, Kind, KindClass, Name, ObjKind, Refusal};
 
 impl World {
     /// Defines a class of object arrays, and returns its number. Fails with ClassLimit, BadName or DuplicateName, in this
@@ -31,7 +32,7 @@ impl World {
             self.old self.new result }
     {
         self.allow_array(m, r, class, len)?;
-        self.make(m, r, ObjKind::Array(class), len)
+        self.make(m, r, ObjKind::Array(class as KindClass), len)
     }
 
     /// Makes an array of values of a kind in register `r` of mutator `m`, its elements 0. Fails with BadRegister, WrongKind (the
@@ -48,6 +49,7 @@ impl World {
     // Checks that such an object array may be made if there is room. Fails with BadRegister, NoClass, WrongKind or TooLarge.
     fn allow_array(&self, m: u64, r: u64, class: ClassNo, len: u64) -> Result<(), Refusal>
         ensures allowed { OnOk result (MayHold self.now m r (Array class) len) }
+        ensures limit { OnOk result (class < class_limit) }
         ensures refused { IfErr result (λ e. new_array_refusal m r class len self.now ≡ Some e) }
     {
         self.allow_class(m, r, class)?;

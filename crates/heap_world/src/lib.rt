@@ -3,6 +3,7 @@
 
 ghost use Rattle.std.specs.Prelude.{◌≡◌, ◌≢◌, ◌⊎◌, ◌+◌, ◌-◌, ◌*◌, ◌<◌, ◌≤◌, ◌↔◌, ◌&&◌, ℕ, nat_lt, length, reverse, take, replicate, Some, None, true, false, IsTrue, Contains, IsSome, IfSome, IfOk, IfErr, OnOk, OnErr, slice_get, slice_set};
 ghost use Rattle.heap_class.specs.Classes.{instance_class, is_instance_class, slots_of};
+ghost use Rattle.heap_class.specs.Limits.{class_limit};
 ghost use Rattle.heap_class.specs.Refusals.{IsAnswered};
 ghost use Rattle.heap_class.specs.declared.IdSize.TheVariants.{Eight};
 ghost use Rattle.heap_class.specs.declared.ObjKind.TheVariants.{Instance};
@@ -20,7 +21,8 @@ mod references;
 mod sweeping;
 
 use heap_class::{
-    ClassLimits, ClassNo, Classes, IdSize, Kind, NewClass, ObjKind, ObjRef, Refusal, WIDEST_CLASSES,
+    ClassLimits, ClassNo, Classes, IdSize, Kind, KindClass, NewClass, ObjKind, ObjRef, Refusal,
+    WIDEST_CLASSES,
 };
 use heap_mark::{Marker, Phase};
 use heap_region::Regions;
@@ -495,7 +497,7 @@ impl World {
             (new_refusal m r class self.old) self.old self.new result }
     {
         let len = self.instance_len(m, r, class)?;
-        self.make(m, r, ObjKind::Instance(class), len)
+        self.make(m, r, ObjKind::Instance(class as KindClass), len)
     }
 
     /// Undoes the making of an object: frees its cell and writes the old word to register `r` of mutator `m`. Object and
@@ -549,6 +551,7 @@ impl World {
     fn allow_class(&self, m: u64, r: u64, class: ClassNo) -> Result<(), Refusal>
         ensures register { OnOk result (IsTrue (is_register self.now m r)) }
         ensures class { OnOk result (class < length self.now.classes) }
+        ensures limit { OnOk result (class < class_limit) }
         ensures instance { IfErr result (λ e. new_refusal m r class self.now ≡ Some e) }
         ensures array { (len : ℕ)
             → IfErr result (λ e. new_array_refusal m r class len self.now ≡ Some e) }
@@ -567,6 +570,7 @@ impl World {
     fn instance_len(&self, m: u64, r: u64, class: ClassNo) -> Result<u64, Refusal>
         ensures register { OnOk result (IsTrue (is_register self.now m r)) }
         ensures class { OnOk result (is_instance_class self.now.classes class ≡ true) }
+        ensures limit { OnOk result (class < class_limit) }
         ensures refused { IfErr result (λ e. new_refusal m r class self.now ≡ Some e) }
         ensures value { IfOk result (λ n. n ≡ length (slots_of self.now.classes class)) }
     {
@@ -612,7 +616,7 @@ impl World {
             (λ o. result ≡ slice_get (slot_kinds self.now.classes o) slot) }
     {
         match self.regions.kind(at) {
-            ObjKind::Instance(class) => kind_at(self.classes.slots(class), slot),
+            ObjKind::Instance(class) => kind_at(self.classes.slots(class as u64), slot),
             ObjKind::Array(_) => kind_within(Kind::Object, self.regions.len(at), slot),
             ObjKind::Prim(kind) => kind_within(kind, self.regions.len(at), slot),
         }

@@ -45,8 +45,8 @@ use std::time::Clock;
 use std::{env, io, thread};
 
 /// Reads the command line, and does the task that it asks for between standard input and standard output. At terminals `explore`
-/// prompts, shows for how long a line is being answered, and shows rows in columns, and a line of it may begin a log. `draw` reports
-/// lines that are refused.
+/// prompts, shows for how long a line is being answered, and shows rows in columns, and a line of it may begin a log. `draw`
+/// reports lines that are refused.
 pub(crate) fn perform<R>(rt: &R, terminals: Terminals) -> Result<(), Failure>
 where
     R: AllocGlobal + Clock + Env + Eprint + Files + Input + Print,
@@ -160,8 +160,8 @@ fn settings_of_words(alloc: Global, words: &[String]) -> Result<Settings, LineFa
     }
 }
 
-// Does the task that the words ask for between a reader and standard output. `shows` tells whether rows are shown in columns, before
-// which a ticker clears what it shows.
+// Does the task that the words ask for between a reader and standard output. `shows` tells whether rows are shown in columns,
+// before which a ticker clears what it shows.
 fn perform_shown<R, I: Inlet>(
     rt: &R,
     words: &[String],

@@ -1,7 +1,7 @@
 //! `heapdbg-import [--area] FILE OUT` writes the session that makes the heap of a dump. FILE is a dump in HPROF, such as a JVM
 //! writes; OUT is the file of the lines of the session, for a wide heap: with `--area` for one that has an area, which takes arrays
-//! of more than 1,024 elements. `heapdbg-import [--area] FILE --then SECOND OUT` writes the session of two dumps of one program: pin
-//! 1 keeps the heap of the first, and the second is made out of it.
+//! of more than 1,024 elements. `heapdbg-import [--area] FILE --then SECOND OUT` writes the session of two dumps of one program:
+//! pin 1 keeps the heap of the first, and the second is made out of it.
 #![tactic(auto)]
 
 mod report;

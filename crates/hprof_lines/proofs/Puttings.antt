@@ -62,8 +62,8 @@ putting_last old now now' lines rest all none so_far put =
     let whole : so_far.front ++ lines ≡ all = ap (λ (ls : List ℕ). so_far.front ++ ls) (sym (append-nil lines)) ∙ sym (ap (λ (es : List Event). so_far.front ++ (lines ++ lines_of es)) none) ∙ so_far.left in
     record { out = both.out ∙ ap (λ (t : List ℕ). old.out ++ t) whole; failures = both.failures }
 
-longer : (xs ys : List ℕ) (n : ℕ) → n ≤ length xs → n ≤ length (xs ++ ys)
-longer xs ys n few = omega (arith, few, length-append xs ys)
+length_of_beginning_is_less : (xs ys : List ℕ) (n : ℕ) → n ≤ length xs → n ≤ length (xs ++ ys)
+length_of_beginning_is_less xs ys n few = omega (arith, few, length-append xs ys)
 
 -- a put failed
 pub putting_failed : (old now now' : Outgoing) (lines : List ℕ) (rest : List Event) (all : List ℕ)
@@ -76,7 +76,7 @@ putting_failed old now now' lines rest all so_far part = record {
       ∙ ap (λ (ls : List ℕ). so_far.front ++ (ls ++ lines_of rest)) part.parts
       ∙ ap (λ (ls : List ℕ). so_far.front ++ ls) (append_assoc part.front part.back (lines_of rest))
       ∙ sym (append_assoc so_far.front part.front (part.back ++ lines_of rest));
-  left = longer part.back (lines_of rest) 1 part.left;
+  left = length_of_beginning_is_less part.back (lines_of rest) 1 part.left;
   out = part.out ∙ ap (λ (o : List ℕ). o ++ part.front) so_far.put.out ∙ append_assoc old.out so_far.front part.front;
   failures = part.failures ∙ ap (λ (n : ℕ). n + 1) so_far.put.failures;
 }
@@ -149,7 +149,7 @@ cut_more failed old new a b part = record {
   front = part.front;
   back = part.back ++ b;
   parts = ap (λ (t : List ℕ). t ++ b) part.parts ∙ append_assoc part.front part.back b;
-  left = longer part.back b failed part.left;
+  left = length_of_beginning_is_less part.back b failed part.left;
   out = part.out;
   failures = part.failures;
 }

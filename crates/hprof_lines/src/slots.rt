@@ -10,7 +10,7 @@ use hprof_plan::Plan;
 use hprof_reader::SubRecord;
 use std::alloc::AllocError;
 
-/// Puts the values of the slots of an object that are kept in place of those given. Fails if an allocation fails.
+/// Puts the values of the slots of an object that are kept instead of those given. Fails if an allocation fails.
 #[tactic(auto, unfolding(crate::specs::Slots::object_values))]
 pub fn read_object(
     slots: &mut Vec<SlotValue>,

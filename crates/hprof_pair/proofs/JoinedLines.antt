@@ -340,7 +340,7 @@ class_refused limits first j next s h c e are is defined other known text same =
     refused : and_defined limits s r ≡ and_number s None
     refused = ap (λ (o : Option Refusal). cond (is_none o) (record { classes = s.classes ++ r ∷ []; numbers = s.numbers ++ Some (length s.classes) ∷ [] }) (and_number s None)) some
 
--- the class that is defined in place of an array class
+-- the class that is defined instead of an array class
 pub array_by_name : (classes : List Class) (k : ℕ) (c : Class) (name : List ℕ) (sup : Option ℕ) → IsClassTable [] classes → slice_get classes k ≡ Some c → is_array_class classes k ≡ true → sup ≡ None
     → array_class name ≡ record { name = name; sup = sup; fields = c.fields; is_array = c.is_array }
 array_by_name classes k c name sup table there array none =

@@ -62,8 +62,8 @@ roots_events p roots tags =
 
 -- ---- all
 
--- the events behind the classes: the objects of the first dump are found again, those of the second that didn't stay are made, slots
--- that differ are written, and the roots are kept
+-- the events behind the classes: the objects of the first dump are found again, those of the second that didn't stay are made,
+-- slots that differ are written, and the roots are kept
 abbrev pub second_events : PairTold → List Way → List RootFound → List ℕ → List Event
 second_events p ways roots tags =
     shelves_events p

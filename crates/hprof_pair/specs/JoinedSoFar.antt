@@ -5,8 +5,8 @@ use Rattle.hprof_plan.specs.Accepted.{class_lines}
 use Rattle.hprof_pair.specs.declared.joined_classes.JoinedClasses.{JoinedClasses}
 use Rattle.hprof_pair.specs.JoinedClasses.{Joined, class_line}
 
--- these are the classes of the heap, of which those of the first dump are `first`, with their lines and the lines of the others, and
--- the numbers of the second dump's classes
+-- these are the classes of the heap, of which those of the first dump are `first`, with their lines and the lines of the others,
+-- and the numbers of the second dump's classes
 pub record AreJoined (first : List Class) (j : JoinedClasses) (s : Joined) : Type 0 where
   pub classes : j.classes ≡ s.classes
   pub known : j.known.items ≡ map class_line s.classes

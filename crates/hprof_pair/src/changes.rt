@@ -64,7 +64,7 @@ pub(crate) fn push_changes(
     }
 }
 
-// Puts the values that an object with this number held in the first dump in place of those given: none, if it is new.
+// Puts the values that an object with this number held in the first dump instead of those given: none, if it is new.
 fn read_before(
     before: &mut Vec<SlotValue>,
     pair: &Pair<'_, '_, '_>,
@@ -81,7 +81,7 @@ fn read_before(
     Ok(())
 }
 
-// Puts those of these values that differ from the values before in place of those given.
+// Puts those of these values that differ from the values before instead of those given.
 fn put_changed(
     changed: &mut Vec<SlotValue>,
     pair: &Pair<'_, '_, '_>,

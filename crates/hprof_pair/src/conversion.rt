@@ -58,9 +58,9 @@ impl From<AllocError> for PairFailure {
     }
 }
 
-/// Puts out the session of two dumps, for a heap with an area or without one, and counts what is left out. Fails with FirstHeader or
-/// SecondHeader if the bytes of one don't begin as a dump does; nothing is out then. Fails with Memory if an allocation fails, and
-/// with Write if a put fails; a part of the session may be out then, from the front.
+/// Puts out the session of two dumps, for a heap with an area or without one, and counts what is left out. Fails with FirstHeader
+/// or SecondHeader if the bytes of one don't begin as a dump does; nothing is out then. Fails with Memory if an allocation fails,
+/// and with Write if a put fails; a part of the session may be out then, from the front.
 pub fn convert_pair<O: Outlet>(
     alloc: Global,
     outlet: &mut O,

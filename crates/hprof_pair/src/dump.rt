@@ -114,7 +114,7 @@ impl<'s, 'a> Dump<'s, 'a> {
         shape_made(making_event(self.all.plan, sub)?)
     }
 
-    /// Puts the values of the slots of object n in place of those given. Fails if an allocation fails.
+    /// Puts the values of the slots of object n instead of those given. Fails if an allocation fails.
     #[tactic(auto, unfolding(crate::specs::Dumps::values_of))]
     pub(crate) fn read_values(&self, values: &mut Vec<SlotValue>, n: u64) -> Result<(), AllocError>
         requires { index_map_len self.now.all.plan.now.kinds

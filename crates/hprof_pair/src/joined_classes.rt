@@ -120,7 +120,8 @@ fn fields_of(alloc: Global, classes: &Classes, k: ClassNo) -> Result<Fields, All
     Ok(Fields::from_vec(fields))
 }
 
-// Looks at class k of the second dump: it has the number of the class that the same line defines, or is defined, if the heap takes it.
+// Looks at class k of the second dump: it has the number of the class that the same line defines, or is defined, if the heap takes
+// it.
 fn join_class(
     alloc: Global,
     limits: ClassLimits,
@@ -199,7 +200,8 @@ fn number_of_line(lines: &[Name], line: &Name) -> Option<ClassNo>
     None
 }
 
-// Defines class k of the second dump with this super, by its name or another in its place, if the heap takes it. Returns its number.
+// Defines class k of the second dump with this super, by its name or another in its place, if the heap takes it. Returns its
+// number.
 fn define_class(
     alloc: Global,
     limits: ClassLimits,

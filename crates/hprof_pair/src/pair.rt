@@ -37,8 +37,8 @@ impl Pair<'_, '_, '_> {
         }
     }
 
-    // Returns the number of the object of the first dump that object n of the second may be: that of static fields of this class, or
-    // that with this id.
+    // Returns the number of the object of the first dump that object n of the second may be: that of static fields of this class,
+    // or that with this id.
     #[tactic(auto, unfolding(crate::specs::Pairs::like_number))]
     fn like_number(&self, n: u64) -> Option<u64>
         ensures { result ≡ like_number (pair_told self.now) n }

@@ -17,8 +17,8 @@ use hprof_lines::{ROOT_TAGS, put_text};
 use hprof_plan::RootFound;
 use std::alloc::{AllocError, Global};
 
-/// Puts out what follows the lines of the first dump: a pin keeps its heap, and then the heap of the second is made out of it. `text`
-/// has the lines of the second one's classes that aren't those of the first. Tells whether all of them are out. Fails if an
+/// Puts out what follows the lines of the first dump: a pin keeps its heap, and then the heap of the second is made out of it.
+/// `text` has the lines of the second one's classes that aren't those of the first. Tells whether all of them are out. Fails if an
 /// allocation fails.
 pub(crate) fn write_second<O: Outlet>(
     alloc: Global,

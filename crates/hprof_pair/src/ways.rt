@@ -155,7 +155,7 @@ fn add_way(ways: &mut Ways, way: Way) -> Result<(), AllocError>
     Ok(())
 }
 
-// Puts the ways by all slots of object n, which has these values, in place of those given.
+// Puts the ways by all slots of object n, which has these values, instead of those given.
 fn put_ways_out(
     ways: &mut Vec<Way>,
     all: &Objects<'_, '_>,

@@ -21,28 +21,28 @@ use Rattle.hprof_plan.specs.Accepted.{class_event, class_lines, AreAccepted}
 abbrev Signed : ℕ → Type 0
 Signed b = (is_sign b ≡ true) × (not (b == 58) ≡ true)
 
-signed : (b : ℕ) → 33 ≤ b → b ≤ 126 → (b ≡ 58 → ⊥) → Signed b
-signed b low high other = (and_from _ _ (le-leb 33 b low) (le-leb b 126 high), not_from_false _ (ne_eqb b 58 other))
+plain_byte_is_signed : (b : ℕ) → 33 ≤ b → b ≤ 126 → (b ≡ 58 → ⊥) → Signed b
+plain_byte_is_signed b low high other = (and_from _ _ (le-leb 33 b low) (le-leb b 126 high), not_from_false _ (ne_eqb b 58 other))
 
 abbrev in_range : ℕ → ℕ → ℕ → Bool
 in_range low high b = nat_le low b && nat_le b high
 
-ranged : (low high b : ℕ) → in_range low high b ≡ true → (low ≤ b) × (b ≤ high)
-ranged low high b h = let both = and_parts (nat_le low b) (nat_le b high) h in (leb-true low b both.0, leb-true b high both.1)
+range_has_bounds : (low high b : ℕ) → in_range low high b ≡ true → (low ≤ b) × (b ≤ high)
+range_has_bounds low high b h = let both = and_parts (nat_le low b) (nat_le b high) h in (leb-true low b both.0, leb-true b high both.1)
 
 of_graphic : (b : ℕ) → (in_range 33 126 b && not (b == 58 || false)) ≡ true → Signed b
 of_graphic b h =
     let both = and_parts (in_range 33 126 b) _ h in
-    let range = ranged 33 126 b both.0 in
+    let range = range_has_bounds 33 126 b both.0 in
     (both.0, not_from_false _ (or_parts (b == 58) false (not-true _ both.1)).0)
 
 of_alphanumeric : (b : ℕ) → ((in_range 48 57 b || in_range 65 90 b) || in_range 97 122 b) ≡ true → Signed b
 of_alphanumeric b h = elim (or_cases (in_range 48 57 b || in_range 65 90 b) (in_range 97 122 b) h) [
   | inl p ↦ elim (or_cases (in_range 48 57 b) (in_range 65 90 b) p) [
-    | inl q ↦ (let r = ranged 48 57 b q in signed b (omega (arith, r.0)) (omega (arith, r.1)) (λ e. omega (arith, r.1, e)))
-    | inr q ↦ (let r = ranged 65 90 b q in signed b (omega (arith, r.0)) (omega (arith, r.1)) (λ e. omega (arith, r.0, e)))
+    | inl q ↦ (let r = range_has_bounds 48 57 b q in plain_byte_is_signed b (omega (arith, r.0)) (omega (arith, r.1)) (λ e. omega (arith, r.1, e)))
+    | inr q ↦ (let r = range_has_bounds 65 90 b q in plain_byte_is_signed b (omega (arith, r.0)) (omega (arith, r.1)) (λ e. omega (arith, r.0, e)))
   ]
-  | inr p ↦ (let r = ranged 97 122 b p in signed b (omega (arith, r.0)) (omega (arith, r.1)) (λ e. omega (arith, r.0, e)))
+  | inr p ↦ (let r = range_has_bounds 97 122 b p in plain_byte_is_signed b (omega (arith, r.0)) (omega (arith, r.1)) (λ e. omega (arith, r.0, e)))
 ]
 
 of_listed : (b : ℕ) (cs : List ℕ) → AllByRecursion Signed cs → list_any (λ c. b == c) cs ≡ true → Signed b

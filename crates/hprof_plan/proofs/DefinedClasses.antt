@@ -14,7 +14,7 @@ use Rattle.hprof_plan.specs.Names.{AreGiven, given_name, is_clean, other_name}
 use Rattle.hprof_plan.specs.declared.define.Defined.{Defined}
 use Rattle.hprof_plan.proofs.ClassEvents.{accepted_more, lines_more}
 use Rattle.hprof_plan.proofs.FieldLoops.{map_and}
-use Rattle.hprof_plan.proofs.GivenNames.{fresh, one_given}
+use Rattle.hprof_plan.proofs.GivenNames.{given_name_is_new, one_given}
 
 -- ---- names
 
@@ -22,14 +22,14 @@ abbrev name_in : Class → List ℕ
 name_in c = c.name
 
 -- a name that is given goes last
-pub inserted : (ks : List (List ℕ)) (k : List ℕ) → list_any (bytes_eq k) ks ≡ false → insert_key bytes_eq ks k ≡ ks ++ k ∷ []
-inserted ks k h = cond-false (list_any (bytes_eq k) ks) ks (ks ++ k ∷ []) h
+pub new_key_goes_last : (ks : List (List ℕ)) (k : List ℕ) → list_any (bytes_eq k) ks ≡ false → insert_key bytes_eq ks k ≡ ks ++ k ∷ []
+new_key_goes_last ks k h = cond-false (list_any (bytes_eq k) ks) ks (ks ++ k ∷ []) h
 
 pub goes_last : (limits : ClassLimits) (n : ℕ) (x given copy : List ℕ) (ks new : List (List ℕ)) → n < 2 ^ 64 → AreGiven limits n ks → given ≡ given_name limits ks n x → copy ≡ given
     → new ≡ insert_key bytes_eq ks copy → new ≡ ks ++ given ∷ []
 goes_last limits n x given copy ks new long all is same e =
     e ∙ ap (insert_key bytes_eq ks) (same ∙ is)
-    ∙ inserted ks (given_name limits ks n x) (fresh limits n x ks long all)
+    ∙ new_key_goes_last ks (given_name limits ks n x) (given_name_is_new limits n x ks long all)
     ∙ ap (λ (k : List ℕ). ks ++ k ∷ []) (sym is)
 
 pub given_for : (limits : ClassLimits) (d : Defined) (n : ℕ) → AreDefined limits d → n ≡ length d.classes → AreGiven limits n d.names.keys
@@ -72,9 +72,9 @@ counted_and {V} kinds more classes new c old counted e none len =
     let one : length more ≡ length kinds + 1 = subst (λ (o : Option V). length more ≡ length kinds + cond (is_some o) 0 1) none len in
     omega (arith, one, counted, ap length e, one_longer classes c)
 
-pub absent : {V : Type 0} (o : Option V) → false ≡ is_some o → o ≡ None
-absent None h = refl
-absent (Some x) h = absurd cc
+pub not_some_is_none : {V : Type 0} (o : Option V) → false ≡ is_some o → o ≡ None
+not_some_is_none None h = refl
+not_some_is_none (Some x) h = absurd cc
 
 pub with_name : (make : List ℕ → Class) (old new : List Class) (given next : List ℕ) → given ≡ next → new ≡ old ++ make given ∷ [] → new ≡ old ++ make next ∷ []
 with_name make old new given next is e = e ∙ ap (λ (n : List ℕ). old ++ make n ∷ []) is

@@ -66,17 +66,17 @@ no_key old o h = ap (λ o. insert_keys nat_eq old (option_to_list o)) h
 
 -- ---- one item more
 
-alone : {B : Type 0} (o : Option B) → cons_option o [] ≡ option_to_list o
-alone None = refl
-alone (Some x) = refl
+cons_to_nothing : {B : Type 0} (o : Option B) → cons_option o [] ≡ option_to_list o
+cons_to_nothing None = refl
+cons_to_nothing (Some x) = refl
 
-under : {B : Type 0} (o : Option B) (xs ys zs : List B) → xs ≡ ys ++ zs → cons_option o xs ≡ cons_option o ys ++ zs
-under None xs ys zs e = e
-under (Some x) xs ys zs e = ap (λ t. x ∷ t) e
+cons_before_append : {B : Type 0} (o : Option B) (xs ys zs : List B) → xs ≡ ys ++ zs → cons_option o xs ≡ cons_option o ys ++ zs
+cons_before_append None xs ys zs e = e
+cons_before_append (Some x) xs ys zs e = ap (λ t. x ∷ t) e
 
 told_and : {B : Type 0} (f : ItemTold → Option B) (list : List ItemTold) (i : ItemTold) → filter_map f (list ++ i ∷ []) ≡ filter_map f list ++ option_to_list (f i)
-told_and f [] i = alone (f i)
-told_and f (x ∷ list) i = under (f x) _ _ _ (told_and f list i)
+told_and f [] i = cons_to_nothing (f i)
+told_and f (x ∷ list) i = cons_before_append (f x) _ _ _ (told_and f list i)
 
 entries_and : {V : Type 0} (f : ItemTold → Option (ℕ × V)) (list : List ItemTold) (i : ItemTold) (old new : List (ℕ × V)) → old ≡ insert_entries nat_eq [] (filter_map f list)
     → new ≡ insert_entries nat_eq old (option_to_list (f i)) → new ≡ insert_entries nat_eq [] (filter_map f (list ++ i ∷ []))
@@ -118,8 +118,8 @@ pub record IsSoFar (w : Left) (turns : ℕ) (v : Left) (f : Found) : Type 0 wher
   pub fault : f.fault ≡ None
   pub left : f.left ≡ 0
 
-pub starts : (w : Left) (f : Found) → IsEmptyFound w.ids f → IsSoFar w 0 w f
-starts w f none = record { list = []; walked = refl; shrunk = omega arith; tables = none.tables; few = omega (arith, none.again); fault = none.fault; left = none.left }
+pub nothing_found_at_start : (w : Left) (f : Found) → IsEmptyFound w.ids f → IsSoFar w 0 w f
+nothing_found_at_start w f none = record { list = []; walked = refl; shrunk = omega arith; tables = none.tables; few = omega (arith, none.again); fault = none.fault; left = none.left }
 
 pub goes_on : (w : Left) (turns : ℕ) (u : Left) (old : Found) (i : ItemTold) (v : Left) (new : Found) → IsSoFar w turns u old → IsNext u i v → Notes i old new → IsSoFar w (turns + 1) v new
 goes_on w turns u old i v new so_far next n = record {
@@ -145,9 +145,9 @@ comes_to_end w turns v f so_far end = record {
 pub runs_out : (w : Left) (turns : ℕ) (v : Left) (f : Found) → IsSoFar w turns v f → bytes_left w ≤ turns → Finds w f
 runs_out w turns v f so_far all = comes_to_end w turns v f so_far (is_at_end v (omega (arith, so_far.shrunk, all)))
 
-pub stops : (w : Left) (turns : ℕ) (v : Left) (f : Found) (fault : Fault) (n : ℕ) → IsSoFar w turns v f → n ≡ bytes_left v → (IsAtEnd v → ⊥) → ((i : ItemTold) (x : Left) → IsNext v i x → ⊥)
+pub no_next_item_is_fault : (w : Left) (turns : ℕ) (v : Left) (f : Found) (fault : Fault) (n : ℕ) → IsSoFar w turns v f → n ≡ bytes_left v → (IsAtEnd v → ⊥) → ((i : ItemTold) (x : Left) → IsNext v i x → ⊥)
     → Finds w (record f { fault = Some fault; left = n })
-stops w turns v f fault n so_far size more lacking = record {
+no_next_item_is_fault w turns v f fault n so_far size more lacking = record {
   list = so_far.list;
   end = v;
   walked = so_far.walked;

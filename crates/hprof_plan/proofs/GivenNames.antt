@@ -20,50 +20,50 @@ abbrev before_stop : List ℕ → List ℕ
 before_stop [] = []
 before_stop (x ∷ xs) = cond (x == 46) [] (x ∷ before_stop xs)
 
-stops : (ds more : List ℕ) → AllDigits 10 ds → before_stop (ds ++ 46 ∷ more) ≡ ds
-stops [] more digits = refl
-stops (d ∷ ds) more digits =
+digits_before_stop : (ds more : List ℕ) → AllDigits 10 ds → before_stop (ds ++ 46 ∷ more) ≡ ds
+digits_before_stop [] more digits = refl
+digits_before_stop (d ∷ ds) more digits =
     let parts = tells_digits.parts d ds digits in
     let differs : (d == 46) ≡ false = ne_eqb d 46 (λ e. omega (arith, parts.0, e)) in
-    cond-false (d == 46) [] (d ∷ before_stop (ds ++ 46 ∷ more)) differs ∙ ap (λ (t : List ℕ). d ∷ t) (stops ds more parts.1)
+    cond-false (d == 46) [] (d ∷ before_stop (ds ++ 46 ∷ more)) differs ∙ ap (λ (t : List ℕ). d ∷ t) (digits_before_stop ds more parts.1)
 
 abbrev kept_part : ClassLimits → List ℕ → List ℕ
 kept_part limits x = map (sign_for limits.any_sign) (take (limits.name_bytes - 22) x)
 
-spelled : (limits : ClassLimits) (n : ℕ) (x : List ℕ) → other_name limits n x ≡ 46 ∷ (decimal n ++ 46 ∷ kept_part limits x)
+other_name_spelled : (limits : ClassLimits) (n : ℕ) (x : List ℕ) → other_name limits n x ≡ 46 ∷ (decimal n ++ 46 ∷ kept_part limits x)
 unfolding other_name
-spelled limits n x = ap (λ (t : List ℕ). 46 ∷ t) (append_assoc (decimal n) (46 ∷ []) (kept_part limits x))
+other_name_spelled limits n x = ap (λ (t : List ℕ). 46 ∷ t) (append_assoc (decimal n) (46 ∷ []) (kept_part limits x))
 
-abbrev behind : List ℕ → List ℕ
-behind [] = []
-behind (x ∷ xs) = xs
+abbrev bytes_behind_digits : List ℕ → List ℕ
+bytes_behind_digits [] = []
+bytes_behind_digits (x ∷ xs) = xs
 
-number_in : (limits : ClassLimits) (n : ℕ) (x : List ℕ) → n < 2 ^ 64 → before_stop (behind (other_name limits n x)) ≡ decimal n
+number_in : (limits : ClassLimits) (n : ℕ) (x : List ℕ) → n < 2 ^ 64 → before_stop (bytes_behind_digits (other_name limits n x)) ≡ decimal n
 number_in limits n x long =
-    ap (λ (t : List ℕ). before_stop (behind t)) (spelled limits n x)
-    ∙ stops (decimal n) (kept_part limits x) (decimal_is_IsNumeral n long).0.1
+    ap (λ (t : List ℕ). before_stop (bytes_behind_digits t)) (other_name_spelled limits n x)
+    ∙ digits_before_stop (decimal n) (kept_part limits x) (decimal_is_IsNumeral n long).0.1
 
 same_number : (limits : ClassLimits) (n m : ℕ) (x y : List ℕ) → n < 2 ^ 64 → m < 2 ^ 64 → other_name limits n x ≡ other_name limits m y → n ≡ m
 same_number limits n m x y long long_too e =
     decimal_injective n m long long_too
-    (sym (number_in limits n x long) ∙ ap (λ (t : List ℕ). before_stop (behind t)) e ∙ number_in limits m y long_too)
+    (sym (number_in limits n x long) ∙ ap (λ (t : List ℕ). before_stop (bytes_behind_digits t)) e ∙ number_in limits m y long_too)
 
 other_unclean : (limits : ClassLimits) (n : ℕ) (x : List ℕ) → is_clean limits (other_name limits n x) ≡ false
-other_unclean limits n x = ap (is_clean limits) (spelled limits n x)
+other_unclean limits n x = ap (is_clean limits) (other_name_spelled limits n x)
 
 -- ---- names that were given
 
-differs : (limits : ClassLimits) (n : ℕ) (x y : List ℕ) → n < 2 ^ 64 → IsGiven limits n y → bytes_eq (other_name limits n x) y ≡ false
-differs limits n x y long (inl clean) =
+other_name_differs : (limits : ClassLimits) (n : ℕ) (x y : List ℕ) → n < 2 ^ 64 → IsGiven limits n y → bytes_eq (other_name limits n x) y ≡ false
+other_name_differs limits n x y long (inl clean) =
     false_from_ne_true _ (λ e. true≢false (sym clean ∙ sym (ap (is_clean limits) (bytes_same (other_name limits n x) y e)) ∙ other_unclean limits n x))
-differs limits n x y long (inr other) =
+other_name_differs limits n x y long (inr other) =
     false_from_ne_true _ (λ e.
     let same : n ≡ other.number = same_number limits n other.number x other.name long (omega (arith, long, other.below)) (bytes_same (other_name limits n x) y e ∙ other.is) in
     omega (arith, same, other.below))
 
 none_is : (limits : ClassLimits) (n : ℕ) (x : List ℕ) (given : List (List ℕ)) → n < 2 ^ 64 → AreGiven limits n given → list_any (bytes_eq (other_name limits n x)) given ≡ false
 none_is limits n x [] long all = refl
-none_is limits n x (y ∷ given) long all = or_from _ _ (differs limits n x y long all.0) (none_is limits n x given long all.1)
+none_is limits n x (y ∷ given) long all = or_from _ _ (other_name_differs limits n x y long all.0) (none_is limits n x given long all.1)
 
 -- a name that is given is none of those before
 fresh_as : (limits : ClassLimits) (n : ℕ) (x : List ℕ) (given : List (List ℕ)) (b : Bool) → n < 2 ^ 64 → AreGiven limits n given → (is_clean limits x && not (list_any (bytes_eq x) given)) ≡ b
@@ -71,22 +71,22 @@ fresh_as : (limits : ClassLimits) (n : ℕ) (x : List ℕ) (given : List (List �
 fresh_as limits n x given true long all e = not-true _ (and_parts (is_clean limits x) _ e).1
 fresh_as limits n x given false long all e = none_is limits n x given long all
 
-pub fresh : (limits : ClassLimits) (n : ℕ) (x : List ℕ) (given : List (List ℕ)) → n < 2 ^ 64 → AreGiven limits n given → list_any (bytes_eq (given_name limits given n x)) given ≡ false
+pub given_name_is_new : (limits : ClassLimits) (n : ℕ) (x : List ℕ) (given : List (List ℕ)) → n < 2 ^ 64 → AreGiven limits n given → list_any (bytes_eq (given_name limits given n x)) given ≡ false
 unfolding given_name
-fresh limits n x given long all = fresh_as limits n x given _ long all refl
+given_name_is_new limits n x given long all = fresh_as limits n x given _ long all refl
 
 -- and stays given
 stays_as : (limits : ClassLimits) (n : ℕ) (x : List ℕ) (b c : Bool) → (is_clean limits x && c) ≡ b → IsGiven limits (n + 1) (cond b x (other_name limits n x))
 stays_as limits n x true c e = inl (and_parts (is_clean limits x) c e).0
 stays_as limits n x false c e = inr (record { number = n; below = omega arith; name = x; is = refl })
 
-later : (limits : ClassLimits) (n : ℕ) (y : List ℕ) → IsGiven limits n y → IsGiven limits (n + 1) y
-later limits n y (inl clean) = inl clean
-later limits n y (inr other) = inr (record { number = other.number; below = omega (arith, other.below); name = other.name; is = other.is })
+given_below_next_number : (limits : ClassLimits) (n : ℕ) (y : List ℕ) → IsGiven limits n y → IsGiven limits (n + 1) y
+given_below_next_number limits n y (inl clean) = inl clean
+given_below_next_number limits n y (inr other) = inr (record { number = other.number; below = omega (arith, other.below); name = other.name; is = other.is })
 
 and_one : (limits : ClassLimits) (n : ℕ) (given : List (List ℕ)) (y : List ℕ) → AreGiven limits n given → IsGiven limits (n + 1) y → AreGiven limits (n + 1) (given ++ y ∷ [])
 and_one limits n [] y all last = (last, tt)
-and_one limits n (z ∷ given) y all last = (later limits n z all.0, and_one limits n given y all.1 last)
+and_one limits n (z ∷ given) y all last = (given_below_next_number limits n z all.0, and_one limits n given y all.1 last)
 
 pub one_given : (limits : ClassLimits) (n : ℕ) (x : List ℕ) (given : List (List ℕ)) → AreGiven limits n given → AreGiven limits (n + 1) (given ++ given_name limits given n x ∷ [])
 unfolding given_name
@@ -139,7 +139,7 @@ other_size limits n x long room =
 other_taken : (limits : ClassLimits) (n : ℕ) (x : List ℕ) → n < 2 ^ 64 → 22 ≤ limits.name_bytes → is_name limits (other_name limits n x) ≡ true
 unfolding is_name
 other_taken limits n x long room =
-    subst (λ (t : List ℕ). (nat_le 1 (length t) && nat_le (length t) limits.name_bytes && list_all (is_name_byte limits.any_sign) t) ≡ true) (sym (spelled limits n x))
+    subst (λ (t : List ℕ). (nat_le 1 (length t) && nat_le (length t) limits.name_bytes && list_all (is_name_byte limits.any_sign) t) ≡ true) (sym (other_name_spelled limits n x))
     (and_from _ _ (and_from _ _ (le-leb 1 (length (46 ∷ (decimal n ++ 46 ∷ kept_part limits x))) (omega arith)) (le-leb (length (46 ∷ (decimal n ++ 46 ∷ kept_part limits x))) limits.name_bytes (other_size limits n x long room))) (other_signs limits n x long))
 
 clean_taken : (limits : ClassLimits) (x : List ℕ) → is_clean limits x ≡ true → is_name limits x ≡ true

@@ -23,7 +23,7 @@ use Rattle.hprof_plan.specs.ClassFields.{add_field, name_at, own_named, static_n
 use Rattle.hprof_plan.specs.Names.{AreGiven, given_name}
 use Rattle.hprof_plan.specs.Right.{AreRight}
 use Rattle.hprof_plan.proofs.FieldLoops.{map_and}
-use Rattle.hprof_plan.proofs.GivenNames.{fresh, given_taken, one_given}
+use Rattle.hprof_plan.proofs.GivenNames.{given_name_is_new, given_taken, one_given}
 
 -- ---- classes
 
@@ -45,7 +45,7 @@ named_fresh : (limits : ClassLimits) (classes : List Class) (c : Class) (x : Lis
 named_fresh limits classes c x few given is =
     any_flip classes c.name
     ∙ ap (λ (n : List ℕ). list_any (bytes_eq n) (class_names classes)) is
-    ∙ fresh limits (length classes) x (class_names classes) few given
+    ∙ given_name_is_new limits (length classes) x (class_names classes) few given
 
 pub not_refused : (limits : ClassLimits) (classes : List Class) (c : Class) (x : List ℕ) → 22 ≤ limits.name_bytes → length classes < 2 ^ 64 → length classes < limits.classes
     → AreGiven limits (length classes) (class_names classes) → c.name ≡ next_name limits classes x → option_map_or (is_instance_class classes) c.sup true ≡ true
@@ -87,7 +87,7 @@ names_and : (limits : ClassLimits) (names : List (List ℕ)) (n : ℕ) (x : List
     → all_distinct names ≡ true → (list_all (is_name limits) (names ++ given_name limits names n x ∷ []) ≡ true) × (all_distinct (names ++ given_name limits names n x ∷ []) ≡ true)
 names_and limits names n x long few given taken distinct = (
   list_all-append (is_name limits) names (given_name limits names n x ∷ []) ∙ and_from _ _ taken (and_from _ _ (given_taken limits n x names few long) refl),
-  distinct_and names (given_name limits names n x) distinct (fresh limits n x names few given),
+  distinct_and names (given_name limits names n x) distinct (given_name_is_new limits n x names few given),
 )
 
 field_and : (limits : ClassLimits) (done : List Field) (x : List ℕ) (kind : Kind) → 22 ≤ limits.name_bytes → length done < 2 ^ 64 → AreFieldsGiven limits done

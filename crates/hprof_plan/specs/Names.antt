@@ -14,8 +14,8 @@ is_clean limits (x ∷ xs) = not (x == 46) && is_name limits (x ∷ xs)
 abbrev pub sign_for : Bool → ℕ → ℕ
 sign_for any_sign b = cond (is_name_byte any_sign b) b 95
 
--- a name that is written in place of another: the number between two full stops, and what of the name there is room for, with a
--- low line in place of each byte that may not stand in a name
+-- a name that is written instead of another: the number between two full stops, and what of the name there is room for, with a
+-- low line instead of each byte that may not stand in a name
 unfoldable pub other_name : ClassLimits → ℕ → List ℕ → List ℕ
 other_name limits number name =
     codes "." ++ decimal number ++ codes "." ++ map (sign_for limits.any_sign) (take (limits.name_bytes - 22) name)
@@ -27,14 +27,14 @@ given_name limits given number name =
 
 -- ---- names that were given
 
--- a name in place of another, with a number below n
+-- a name instead of another, with a number below n
 pub record IsOther (limits : ClassLimits) (n : ℕ) (y : List ℕ) : Type 0 where
   pub number : ℕ
   pub below : number < n
   pub name : List ℕ
   pub is : y ≡ other_name limits number name
 
--- a name that was given before number n: a clean one, or one in place of another
+-- a name that was given before number n: a clean one, or one instead of another
 abbrev pub IsGiven : ClassLimits → ℕ → List ℕ → Type 0
 IsGiven limits n y = (is_clean limits y ≡ true) ⊎ IsOther limits n y
 

@@ -17,7 +17,7 @@ use Rattle.hprof_plan.specs.declared.dump_classes.Planned.{Planned}
 use Rattle.hprof_plan.specs.declared.planning.Plan.{Plan}
 use Rattle.hprof_plan.specs.declared.planning.Statics.{Statics}
 
--- the limits leave room for `room` classes and 10 more, and for the names that stand in place of others
+-- the limits leave room for `room` classes and 10 more, and for the names that stand instead of others
 pub record AreTakenLimits (limits : ClassLimits) (room : ℕ) : Type 0 where
   pub limits_are : AreClassLimits limits
   pub long : 22 ≤ limits.name_bytes

@@ -63,7 +63,7 @@ fn is_allowed(any_sign: bool, byte: u8) -> bool
         || matches!(byte, b'_' | b'$' | b'/' | b'[' | b';' | b'.')
 }
 
-// Returns the name that is written in place of this one, which no other has. Fails if an allocation fails.
+// Returns the name that is written instead of this one, which no other has. Fails if an allocation fails.
 #[tactic(auto, unfolding(crate::specs::Names::other_name))]
 fn other_name(
     alloc: Global,
@@ -92,7 +92,7 @@ fn push_number(text: &mut Vec<u8>, number: u64) -> Result<(), AllocError>
     Ok(())
 }
 
-// Appends the bytes, with a low line in place of each that may not stand in a name. Fails if an allocation fails.
+// Appends the bytes, with a low line instead of each that may not stand in a name. Fails if an allocation fails.
 fn push_signs(text: &mut Vec<u8>, any_sign: bool, bytes: &[u8]) -> Result<(), AllocError>
     ensures { OnOk result (text.new.items ≡ text.old.items ++ map (sign_for any_sign) bytes.now) }
 {

@@ -10,8 +10,6 @@ mod numbers;
 mod read_back;
 mod records;
 mod sub_records;
-#[cfg(test)]
-mod tests;
 
 pub use class_dumps::{ClassDump, ClassHead, Entry, Table};
 pub use fault::Fault;

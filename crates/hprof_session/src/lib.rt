@@ -2,8 +2,6 @@
 #![tactic(auto)]
 
 mod places;
-#[cfg(test)]
-mod tests;
 mod walk;
 mod whole_walk;
 

@@ -16,8 +16,8 @@ const FIRST: &[u8] = b"JAVA PROFILE 1.0.2\0\0\0\0\x04\0\0\0\0\0\0\0\0\
 \x21\0\0\0\x31\0\0\0\x01\0\0\0\x10\0\0\0\x08\0\0\0\x32\0\0\0\x07\
 \x21\0\0\0\x32\0\0\0\x01\0\0\0\x10\0\0\0\x08\0\0\0\0\0\0\0\0";
 
-// Another one of the same program: the class has the identifier 18 now, object 31 names object 33, which has come, has the int 9 and
-// names object 31; and object 32 has gone.
+// Another one of the same program: the class has the identifier 18 now, object 31 names object 33, which has come, has the int 9
+// and names object 31; and object 32 has gone.
 const SECOND: &[u8] = b"JAVA PROFILE 1.0.2\0\0\0\0\x04\0\0\0\0\0\0\0\0\
 \x01\0\0\0\0\0\0\0\x08\0\0\0\x01Node\
 \x01\0\0\0\0\0\0\0\x08\0\0\0\x02next\

@@ -25,9 +25,9 @@ pub record IsHere (image : Image) (i : ℕ) (kind : ObjKind) (words : List ℕ) 
   pub known : IsKnown image.classes kind (length words)
   pub small : length words ≤ large_array_limit
 
-pub here : (image : Image) (places : List ObjRef) (i : ℕ) (at : ObjRef) (kind : ObjKind) (words : List ℕ) → IsDumpable image → length places ≡ length image.objects → slice_get places i ≡ Some at
+pub object_viewed_at_place : (image : Image) (places : List ObjRef) (i : ℕ) (at : ObjRef) (kind : ObjKind) (words : List ℕ) → IsDumpable image → length places ≡ length image.objects → slice_get places i ≡ Some at
     → IfSome (slice_get image.objects i) (λ o. kind ≡ o.kind) → IfSome (slice_get image.objects i) (λ o. words ≡ o.words) → IsHere image i kind words
-here image places i at kind words d n e k w =
+object_viewed_at_place image places i at kind words d n e k w =
     let h : i < length image.objects = omega (arith, slice_get_within places i at e, n) in
     let p = item_of_list_within image.objects i h in
     let o = p.0 in
@@ -100,7 +100,7 @@ pub object_record : (ids : IdSize) (image : Image) (places : List ObjRef) (i : �
     → s ≡ ids → cs ≡ image.classes → IfSome (slice_get image.objects i) (λ o. x ≡ o.id) → IfSome (slice_get image.objects i) (λ o. kind ≡ o.kind) → IfSome (slice_get image.objects i) (λ o. words ≡ o.words)
     → slice_get (items_of ids image Objects) i ≡ Some (dump_of s cs x kind words ∷ [])
 object_record ids image places i at s cs x kind words d n e a b f g h =
-    let o = here image places i at kind words d n e g h in
+    let o = object_viewed_at_place image places i at kind words d n e g h in
     object_item_is_its_dump ids image i o.object o.there
     ∙ ap (λ l. Some (l ∷ [])) (sym (object_bytes_are ids image i o.object s cs x kind words o.there a b f o.same_kind o.same_words))
 

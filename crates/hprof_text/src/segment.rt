@@ -184,9 +184,9 @@ impl Segment {
         let _count = classes.len();
         match kind {
             ObjKind::Instance(class) => {
-                Ok(self.offer_instance(ids, classes, object, class, words))
+                Ok(self.offer_instance(ids, classes, object, class as u64, words))
             }
-            ObjKind::Array(class) => self.offer_array(ids, object, class, words),
+            ObjKind::Array(class) => self.offer_array(ids, object, class as u64, words),
             ObjKind::Prim(kind) => self.offer_prim(ids, object, kind, words),
         }
     }

@@ -103,7 +103,7 @@ pub fn dump_size(ids: IdSize, classes: &FirstClasses<'_>, kind: ObjKind, words: 
     ensures limit { result ≤ sub_record_limit }
 {
     match kind {
-        ObjKind::Instance(class) => instance_dump_size(ids, classes, class),
+        ObjKind::Instance(class) => instance_dump_size(ids, classes, class as u64),
         ObjKind::Array(_) => array_size(ids, words),
         ObjKind::Prim(kind) => prim_size(ids, kind, words),
     }

@@ -3,7 +3,5 @@
 
 mod probing;
 mod table;
-#[cfg(test)]
-mod tests;
 
 pub use table::IdTable;

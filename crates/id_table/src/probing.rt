@@ -64,8 +64,8 @@ fn after(size: usize, at: usize) -> usize
     if at + 1 == size { 0 } else { at + 1 }
 }
 
-/// Puts an identifier behind the others, unless it is there. Tells whether it is new. Fails if an allocation fails, or if no slot is
-/// empty or there are too many others.
+/// Puts an identifier behind the others, unless it is there. Tells whether it is new. Fails if an allocation fails, or if no slot
+/// is empty or there are too many others.
 pub(crate) fn add(ids: &mut Vec<u64>, slots: &mut [u32], id: u64) -> Result<bool, AllocError>
     requires { IsIdTable slots.old ids.old.items }
     ensures table { IsIdTable slots.new ids.new.items }

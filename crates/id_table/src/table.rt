@@ -74,8 +74,8 @@ impl IdTable {
         i < self.ids.len() && self.ids[i] == id
     }
 
-    /// Puts an identifier behind the others, unless it is there. Tells whether it is new. Fails if an allocation fails, and may fail
-    /// if there are more than 2^30 others.
+    /// Puts an identifier behind the others, unless it is there. Tells whether it is new. Fails if an allocation fails, and may
+    /// fail if there are more than 2^30 others.
     pub fn insert(&mut self, id: u64) -> Result<bool, AllocError>
         ensures keys { OnOk result (self.new.keys
             ≡ (if list_any (nat_eq id) self.old.keys then self.old.keys
@@ -99,7 +99,7 @@ impl IdTable {
         self.set_size(count + count / 4 + 1)
     }
 
-    // Makes this many slots in place of those that there are.
+    // Makes this many slots instead of those that there are.
     fn set_size(&mut self, size: usize) -> Result<(), AllocError>
         ensures { self.new ≡ self.old }
     {

@@ -1,5 +1,5 @@
-//! The tasks of the program over a heap of its own: `run`, `explore`, `draw` and `save`; and what all tasks share: faults, the lines
-//! or the dumps that are run first, the file of a secret, progress and reports at a terminal.
+//! The tasks of the program over a heap of its own: `run`, `explore`, `draw` and `save`; and what all tasks share: faults, the
+//! lines or the dumps that are run first, the file of a secret, progress and reports at a terminal.
 #![tactic(auto)]
 
 mod asked_run;

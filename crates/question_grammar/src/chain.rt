@@ -36,8 +36,8 @@ pub struct Chain<'a> {
     pub extent: Extent,
 }
 
-/// Returns what a line `show [AT] ID.FIELD .. [DEPTH]` asks to be shown, or None if it is no such line. It may name no field, and the
-/// first slot and how many may stand for the depth. Takes no memory.
+/// Returns what a line `show [AT] ID.FIELD .. [DEPTH]` asks to be shown, or None if it is no such line. It may name no field, and
+/// the first slot and how many may stand for the depth. Takes no memory.
 pub fn chain_in<'a>(bookmarks: &Bookmarks, line: &'a [u8]) -> Option<Chain<'a>>
     ensures { result ≡ chain_of bookmarks.now line.now }
 {

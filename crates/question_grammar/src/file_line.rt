@@ -33,8 +33,8 @@ struct StatePath<'a> {
     path: &'a [u8],
 }
 
-/// Returns what a line asks to be written, `write [AT] PATH` or `draw [AT] PATH`, or None if it is neither. If it names no state, it
-/// is that of the session. Takes no memory.
+/// Returns what a line asks to be written, `write [AT] PATH` or `draw [AT] PATH`, or None if it is neither. If it names no state,
+/// it is that of the session. Takes no memory.
 pub fn file_in<'a>(bookmarks: &Bookmarks, line: &'a [u8]) -> Option<FileLine<'a>>
     ensures { option_map (λ f. (f.content, f.path.now)) result ≡ file_of bookmarks.now line.now }
 {

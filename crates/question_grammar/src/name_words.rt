@@ -150,7 +150,7 @@ fn class_of_kind(kind: ObjKind) -> Option<ClassNo>
     ensures { result ≡ instance_of kind }
 {
     match kind {
-        ObjKind::Instance(class) => Some(class),
+        ObjKind::Instance(class) => Some(class as u64),
         _ => None,
     }
 }

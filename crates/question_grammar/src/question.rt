@@ -43,9 +43,9 @@ pub enum Question {
     Paths { at: At, id: u64, most: u64 },
     /// What is reached, and wouldn't be without an object, as a histogram has it.
     Retained { at: At, id: u64 },
-    /// The objects that no other dominates, with what each retains: how many rows, or all.
+    /// The objects that no other dominates, with what each dominates: how many rows, or all.
     Dominators { at: At, most: Option<u64> },
-    /// The objects that an object dominates immediately, with what each retains: how many rows, or all.
+    /// The objects that an object dominates immediately, with what each dominates: how many rows, or all.
     Dominated { at: At, id: u64, most: Option<u64> },
     /// The objects without which an object wouldn't be reached, one above the other.
     Dominator { at: At, id: u64 },

@@ -16,9 +16,9 @@ use Rattle.question_rows.specs.Growths.{changed_text, changed_texts, differs, mo
 use Rattle.question_rows.proofs.Totals.{row_count}
 
 -- the lines from row `first + i` on, if whether it differs is known
-tested : (classes : List Class) (changes : List Change) (first i : ℕ) (d : Change) (b : Bool) → i < length changes → differs (get_or changes i d) ≡ b
+lines_by_difference : (classes : List Class) (changes : List Change) (first i : ℕ) (d : Change) (b : Bool) → i < length changes → differs (get_or changes i d) ≡ b
     → changed_texts classes (first + i) (drop i changes) ≡ (cond b (changed_text classes (first + i) (get_or changes i d)) []) ++ changed_texts classes (first + (i + 1)) (drop (i + 1) changes)
-tested classes changes first i d b within e =
+lines_by_difference classes changes first i d b within e =
     let n : (first + i) + 1 ≡ first + (i + 1) = omega arith in
     at_drop_more (λ (cs : List Change). changed_texts classes (first + i) cs) changes i d within
     ∙ ap₂ (λ (q : Bool) (k : ℕ). (cond q (changed_text classes (first + i) (get_or changes i d)) []) ++ changed_texts classes k (drop (i + 1) changes)) e n
@@ -26,12 +26,12 @@ tested classes changes first i d b within e =
 -- a row that differs has its line before the others
 pub row_told : (classes : List Class) (changes : List Change) (first i : ℕ) (d : Change) (b : Bool) → i < length changes → b ≡ differs (get_or changes i d) → b ≡ true
     → changed_texts classes (first + i) (drop i changes) ≡ changed_text classes (first + i) (get_or changes i d) ++ changed_texts classes (first + (i + 1)) (drop (i + 1) changes)
-row_told classes changes first i d b within e h = tested classes changes first i d true within (sym e ∙ h)
+row_told classes changes first i d b within e h = lines_by_difference classes changes first i d true within (sym e ∙ h)
 
 -- a row that doesn't has none
 pub row_passed : (classes : List Class) (changes : List Change) (first i : ℕ) (d : Change) (b : Bool) → i < length changes → b ≡ differs (get_or changes i d) → b ≡ false
     → changed_texts classes (first + i) (drop i changes) ≡ changed_texts classes (first + (i + 1)) (drop (i + 1) changes)
-row_passed classes changes first i d b within e h = tested classes changes first i d false within (sym e ∙ h)
+row_passed classes changes first i d b within e h = lines_by_difference classes changes first i d false within (sym e ∙ h)
 
 -- no list of classes is longer than the longer of the two
 more_than : (xs ys : List Class) → (length xs ≤ length (more_classes xs ys)) × (length ys ≤ length (more_classes xs ys))

@@ -19,8 +19,8 @@ rows_none : (n : ℕ) (fs : List Field) → field_rows n fs [] ≡ []
 rows_none n [] = refl
 rows_none n (f ∷ fs) = refl
 
-said : (P : Field → Type 0) (o : Option Field) (f : Field) → o ≡ Some f → IfSome o P → P f
-said P o f e h = subst (λ (p : Option Field). IfSome p P) e h
+some_field_has_it : (P : Field → Type 0) (o : Option Field) (f : Field) → o ≡ Some f → IfSome o P → P f
+some_field_has_it P o f e h = subst (λ (p : Option Field). IfSome p P) e h
 
 -- the next row
 pub rows_more : (i j q : ℕ) (fs : List Field) (ws : List ℕ) (name : List ℕ) (kind : Kind) → q ≡ j + 1 → i < length fs → IfSome (slice_get fs i) (λ f. name ≡ f.name) → IfSome (slice_get fs i) (λ f. kind ≡ f.kind) → j < length ws
@@ -30,7 +30,7 @@ rows_more i j q fs ws name kind e li a k lj =
     at_drop_more (λ gs. field_rows j gs (drop j ws)) fs i f.0 li
     ∙ ap (λ g. field_rows j (g ∷ drop (i + 1) fs) (drop j ws)) (get_or_from_slice_get fs i f.0 f.0 f.1)
     ∙ at_drop_more (λ vs. field_rows j (f.0 ∷ drop (i + 1) fs) vs) ws j 0 lj
-    ∙ ap₂ (λ b m. field_row j b m (get_or ws j 0) ∷ field_rows (j + 1) (drop (i + 1) fs) (drop (j + 1) ws)) (sym (said (λ f. name ≡ f.name) (slice_get fs i) f.0 f.1 a)) (sym (said (λ f. kind ≡ f.kind) (slice_get fs i) f.0 f.1 k))
+    ∙ ap₂ (λ b m. field_row j b m (get_or ws j 0) ∷ field_rows (j + 1) (drop (i + 1) fs) (drop (j + 1) ws)) (sym (some_field_has_it (λ f. name ≡ f.name) (slice_get fs i) f.0 f.1 a)) (sym (some_field_has_it (λ f. kind ≡ f.kind) (slice_get fs i) f.0 f.1 k))
     ∙ ap (λ p. field_row j name kind (get_or ws j 0) ∷ field_rows p (drop (i + 1) fs) (drop p ws)) (sym e)
 
 -- the next field, and those after it
@@ -40,7 +40,7 @@ fields_further i fs name kind li a k =
     let f = item_of_list_within fs i li in
     at_drop_more and_fields fs i f.0 li
     ∙ ap (λ g. and_fields (g ∷ drop (i + 1) fs)) (get_or_from_slice_get fs i f.0 f.0 f.1)
-    ∙ ap₂ (λ b m. field_words b m ++ and_fields (drop (i + 1) fs)) (sym (said (λ f. name ≡ f.name) (slice_get fs i) f.0 f.1 a)) (sym (said (λ f. kind ≡ f.kind) (slice_get fs i) f.0 f.1 k))
+    ∙ ap₂ (λ b m. field_words b m ++ and_fields (drop (i + 1) fs)) (sym (some_field_has_it (λ f. name ≡ f.name) (slice_get fs i) f.0 f.1 a)) (sym (some_field_has_it (λ f. kind ≡ f.kind) (slice_get fs i) f.0 f.1 k))
 
 -- the fields or the words are used up
 pub used_up : (a b f c i : ℕ) → c ≡ min a (b - f) → c ≤ i → f ≤ b → (a ≤ i) ⊎ (b ≤ f + i)

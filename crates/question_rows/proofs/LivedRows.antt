@@ -20,10 +20,10 @@ use Rattle.heap_questions.specs.Lives.{AreLives, IsLife, IsLifeAgo, before_lives
 use Rattle.heap_questions.specs.declared.past.lives.Life.{Life}
 use Rattle.heap_questions.proofs.PastIds.{came_ago, legal_ago}
 use Rattle.heap_questions.proofs.SeenSlots.{object_here}
-use Rattle.heap_questions.proofs.ToldObjects.{told}
+use Rattle.heap_questions.proofs.ToldObjects.{step_tells_before}
 use Rattle.heap_questions.proofs.Walk.{now_is}
 use Rattle.question_words.specs.Names.{IsClassThere}
-use Rattle.question_rows.proofs.NamedObjects.{there}
+use Rattle.question_rows.proofs.NamedObjects.{known_kind_has_class}
 
 -- ---- classes of the past
 
@@ -36,7 +36,7 @@ classes_grow : (keep : ℕ) (t : Trail) (n : ℕ) → IsTrail keep t → n ≤ r
 classes_grow keep t zero trail l = omega (arith, ap (λ (w : HeapState). length w.classes) (now_is t))
 classes_grow keep t (suc n) trail l =
     let c = came_ago keep t n trail (omega (arith, l)) in
-    let tells = told c.1.0 (state_ago (n + 1) t) (state_ago n t) c.0 c.1.1 in
+    let tells = step_tells_before c.1.0 (state_ago (n + 1) t) (state_ago n t) c.0 c.1.1 in
     let less = no_more c.0 (length (state_ago n t).classes) in
     let later = classes_grow keep t n trail (omega (arith, l)) in
     omega (arith, later, tells.classes, less, ap (λ k. length (state_ago k t).classes) (add-one n))
@@ -51,7 +51,7 @@ pub kind_there : (keep : ℕ) (t : Trail) (n : ℕ) (at : ObjRef) (o : Object) �
 kind_there keep t n at o trail within here =
     let w = state_ago n t in
     let known : IsKnown w.classes o.kind (length o.words) = kind_of_slots_is_known w.classes o.kind (length o.words) ((legal_ago keep t n trail within).objects at o here).kind in
-    still_there w.classes t.current.classes o.kind (classes_grow keep t n trail within) (there w.classes o.kind (length o.words) known)
+    still_there w.classes t.current.classes o.kind (classes_grow keep t n trail within) (known_kind_has_class w.classes o.kind (length o.words) known)
 
 -- ---- lives
 

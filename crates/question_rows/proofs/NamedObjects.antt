@@ -17,10 +17,10 @@ use Rattle.question_words.specs.Names.{IsClassThere}
 use Rattle.question_rows.specs.ObjectLists.{IsListedThere}
 use Rattle.question_rows.specs.Registers.{IsKindKnown, NamesKnown}
 
-pub there : (classes : List Class) (kind : ObjKind) (n : ℕ) → IsKnown classes kind n → IsClassThere classes kind
-there classes (Instance k) n known = known.0
-there classes (Array k) n known = known
-there classes (Prim kind) n known = tt
+pub known_kind_has_class : (classes : List Class) (kind : ObjKind) (n : ℕ) → IsKnown classes kind n → IsClassThere classes kind
+known_kind_has_class classes (Instance k) n known = known.0
+known_kind_has_class classes (Array k) n known = known
+known_kind_has_class classes (Prim kind) n known = tt
 
 abbrev IsThere : List Class → DumpedObject → Type 0
 IsThere classes o = IsKnown classes o.kind (length o.words)
@@ -32,7 +32,7 @@ found_there classes test (o ∷ os) all = go (found_there classes test os all.1)
   where
     go : IsKindKnown classes (option_map (λ (o : DumpedObject). o.kind) (find test os)) → (b : Bool)
         → IsKindKnown classes (option_map (λ (o : DumpedObject). o.kind) (cond b (Some o) (find test os)))
-    go later true = there classes o.kind (length o.words) all.0
+    go later true = known_kind_has_class classes o.kind (length o.words) all.0
     go later false = later
 
 named_there : (image : Image) (x : ℕ) → IsDumpable image → NamesKnown image.classes (object_named image x)
@@ -54,7 +54,7 @@ class_there image x o d e =
 
 listed_there : (classes : List Class) (test : DumpedObject → Bool) (objects : List DumpedObject) → AllByRecursion (IsThere classes) objects → AllByRecursion (IsListedThere classes) (map (listed_object test) objects)
 listed_there classes test [] all = tt
-listed_there classes test (o ∷ os) all = (there classes o.kind (length o.words) all.0, listed_there classes test os all.1)
+listed_there classes test (o ∷ os) all = (known_kind_has_class classes o.kind (length o.words) all.0, listed_there classes test os all.1)
 
 -- the classes of the objects of a list are there
 pub all_listed_there : (wanted : Wanted) (image : Image) (all : List ListedObject) → IsDumpable image → AreObjectsWanted wanted image all → All (IsListedThere image.classes) all

@@ -18,8 +18,8 @@ get_behind [] ys i n e = let same : i ≡ n = omega (arith, e) in ap (slice_get 
 get_behind (x ∷ xs) ys zero n e = absurd (omega (arith, e))
 get_behind (x ∷ xs) ys (suc i) n e = get_behind xs ys i n (omega (arith, e))
 
-named : (o : Option Field) (f : Field) (name : List ℕ) → o ≡ Some f → IfSome o (λ f. name ≡ f.name) → name ≡ name_in o
-named o f name e h = subst (λ (p : Option Field). IfSome p (λ f. name ≡ f.name)) e h ∙ ap name_in (sym e)
+name_of_some_field : (o : Option Field) (f : Field) (name : List ℕ) → o ≡ Some f → IfSome o (λ f. name ≡ f.name) → name ≡ name_in o
+name_of_some_field o f name e h = subst (λ (p : Option Field). IfSome p (λ f. name ≡ f.name)) e h ∙ ap name_in (sym e)
 
 -- above no class no slot has a name
 pub no_name : (cs : List Class) (n i : ℕ) (here : Option ℕ) → here ≡ None → name_in (slice_get (fields_up cs n here) i) ≡ []
@@ -37,7 +37,7 @@ own_name cs n m a i here name e h l is =
     ap (λ (o : Option ℕ). name_in (slice_get (fields_up cs n o) i)) h
     ∙ ap (λ (fs : List Field). name_in (slice_get fs i)) (fields_more cs n m a e)
     ∙ ap name_in (get_append (fields_of cs a) (fields_up cs m (sup_of cs a)) i l)
-    ∙ sym (named (slice_get (fields_of cs a) i) f.0 name f.1 is)
+    ∙ sym (name_of_some_field (slice_get (fields_of cs a) i) f.0 name f.1 is)
 
 -- the slot is that of a class above
 pub name_above : (cs : List Class) (n m a i j own : ℕ) (here above : Option ℕ) → n ≡ m + 1 → here ≡ Some a → own ≡ length (fields_of cs a) → own ≤ i → j ≡ i - own → above ≡ sup_of cs a

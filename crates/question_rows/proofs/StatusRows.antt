@@ -20,8 +20,8 @@ five_facts old a b c d e t1 t2 t3 t4 text e1 e2 e3 e4 e5 =
     let h4 = fact_more old t3 t4 (a ∷ b ∷ c ∷ []) d h3 e4 in
     fact_more old t4 text (a ∷ b ∷ c ∷ d ∷ []) e h4 e5
 
-seven : (n : ℕ) → 7 + n ≡ suc (suc (suc (suc (suc (suc (suc n))))))
-seven n = omega arith
+seven_more : (n : ℕ) → 7 + n ≡ suc (suc (suc (suc (suc (suc (suc n))))))
+seven_more n = omega arith
 
 -- all facts, and their number
 pub status_told : (m : Machine) (acts : Option ℕ) (t1 t2 text : List ℕ) → t1 ≡ flat_map fact_text (trail_facts m.trail) → t2 ≡ t1 ++ flat_map fact_text (collector_facts m.trail.current)
@@ -40,4 +40,4 @@ status_told m acts t1 t2 text e1 e2 e3 =
     ∙ ap (λ (t : List ℕ). A ++ t) (sym (append_assoc B C D))
     ∙ sym (append_assoc A (B ++ C) D)
     ∙ ap (λ (t : List ℕ). t ++ D) (sym (flat_map-append fact_text a (b ++ c) ∙ ap (λ (t : List ℕ). A ++ t) (flat_map-append fact_text b c)))
-    ∙ ap (λ (n : ℕ). flat_map fact_text (status_facts m acts) ++ count_text n) (seven (length c))
+    ∙ ap (λ (n : ℕ). flat_map fact_text (status_facts m acts) ++ count_text n) (seven_more (length c))

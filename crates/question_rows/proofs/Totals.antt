@@ -33,23 +33,23 @@ right_zero n = omega arith
 
 -- ---- one object
 
-abbrev here : (k v : ℕ) (gs : List ℕ) → ℕ
-here k v gs = sum_by (λ g. cond (k == g) v 0) gs
+abbrev counted_here : (k v : ℕ) (gs : List ℕ) → ℕ
+counted_here k v gs = sum_by (λ g. cond (k == g) v 0) gs
 
-none : (k v n a : ℕ) → k < a → here k v (range_with_len a n) ≡ 0
-none k v zero a h = refl
-none k v (suc n) a h =
+none_before_range : (k v n a : ℕ) → k < a → counted_here k v (range_with_len a n) ≡ 0
+none_before_range k v zero a h = refl
+none_before_range k v (suc n) a h =
     let e : (k == a) ≡ false = ne_eqb k a (λ p. omega (arith, p, h)) in
     sum_by-cons (λ g. cond (k == g) v 0) a (range_with_len (a + 1) n)
-    ∙ ap₂ (λ (b : Bool) (r : ℕ). cond b v 0 + r) e (none k v n (a + 1) (omega (arith, h)))
+    ∙ ap₂ (λ (b : Bool) (r : ℕ). cond b v 0 + r) e (none_before_range k v n (a + 1) (omega (arith, h)))
 
-once : (k v n a : ℕ) → a ≤ k → k < a + n → here k v (range_with_len a n) ≡ v
-once k v zero a low high = absurd (omega (arith, low, high))
-once k v (suc n) a low high =
+once_in_range : (k v n a : ℕ) → a ≤ k → k < a + n → counted_here k v (range_with_len a n) ≡ v
+once_in_range k v zero a low high = absurd (omega (arith, low, high))
+once_in_range k v (suc n) a low high =
     let c = sum_by-cons (λ g. cond (k == g) v 0) a (range_with_len (a + 1) n) in
     elim (cases_eq k a) [
-      | inl e ↦ c ∙ ap₂ (λ (b : Bool) (r : ℕ). cond b v 0 + r) (eq-eqb k a e) (none k v n (a + 1) (omega (arith, e))) ∙ right_zero v
-      | inr e ↦ c ∙ ap₂ (λ (b : Bool) (r : ℕ). cond b v 0 + r) (ne_eqb k a e) (once k v n (a + 1) (omega (arith, low, e)) (omega (arith, high))) ∙ sym (left_zero v)
+      | inl e ↦ c ∙ ap₂ (λ (b : Bool) (r : ℕ). cond b v 0 + r) (eq-eqb k a e) (none_before_range k v n (a + 1) (omega (arith, e))) ∙ right_zero v
+      | inr e ↦ c ∙ ap₂ (λ (b : Bool) (r : ℕ). cond b v 0 + r) (ne_eqb k a e) (once_in_range k v n (a + 1) (omega (arith, low, e)) (omega (arith, high))) ∙ sym (left_zero v)
     ]
 
 -- ---- all objects
@@ -57,33 +57,33 @@ once k v (suc n) a low high =
 abbrev by_rows : (m : List DumpedObject → ℕ) (objects : List DumpedObject) (gs : List ℕ) → ℕ
 by_rows m objects gs = sum_by (λ g. m (members objects g)) gs
 
-nothing : (m : List DumpedObject → ℕ) (v : DumpedObject → ℕ) → IsMeasure m v → (gs : List ℕ) → by_rows m [] gs ≡ 0
-nothing m v is [] = refl
-nothing m v is (g ∷ gs) = sum_by-cons (λ g. m (members [] g)) g gs ∙ ap₂ (λ (a b : ℕ). a + b) is.nil (nothing m v is gs)
+no_objects_measure_nothing : (m : List DumpedObject → ℕ) (v : DumpedObject → ℕ) → IsMeasure m v → (gs : List ℕ) → by_rows m [] gs ≡ 0
+no_objects_measure_nothing m v is [] = refl
+no_objects_measure_nothing m v is (g ∷ gs) = sum_by-cons (λ g. m (members [] g)) g gs ∙ ap₂ (λ (a b : ℕ). a + b) is.nil (no_objects_measure_nothing m v is gs)
 
-split : (m : List DumpedObject → ℕ) (v : DumpedObject → ℕ) → IsMeasure m v → (b : Bool) (o : DumpedObject) (ms : List DumpedObject)
+measure_splits_first : (m : List DumpedObject → ℕ) (v : DumpedObject → ℕ) → IsMeasure m v → (b : Bool) (o : DumpedObject) (ms : List DumpedObject)
     → m (cond b (o ∷ ms) ms) ≡ cond b (v o) 0 + m ms
-split m v is true o ms = is.cons o ms
-split m v is false o ms = left_zero (m ms)
+measure_splits_first m v is true o ms = is.cons o ms
+measure_splits_first m v is false o ms = left_zero (m ms)
 
 one_more : (m : List DumpedObject → ℕ) (v : DumpedObject → ℕ) → IsMeasure m v → (o : DumpedObject) (os : List DumpedObject) (gs : List ℕ)
-    → by_rows m (o ∷ os) gs ≡ here (row_number o.kind) (v o) gs + by_rows m os gs
+    → by_rows m (o ∷ os) gs ≡ counted_here (row_number o.kind) (v o) gs + by_rows m os gs
 one_more m v is o os [] = left_zero 0
 one_more m v is o os (g ∷ gs) =
     let k = row_number o.kind in
     let a : by_rows m (o ∷ os) (g ∷ gs) ≡ m (cond (k == g) (o ∷ members os g) (members os g)) + by_rows m (o ∷ os) gs = sum_by-cons (λ g. m (members (o ∷ os) g)) g gs in
-    let b : here k (v o) (g ∷ gs) ≡ cond (k == g) (v o) 0 + here k (v o) gs = sum_by-cons (λ g. cond (k == g) (v o) 0) g gs in
+    let b : counted_here k (v o) (g ∷ gs) ≡ cond (k == g) (v o) 0 + counted_here k (v o) gs = sum_by-cons (λ g. cond (k == g) (v o) 0) g gs in
     let d : by_rows m os (g ∷ gs) ≡ m (members os g) + by_rows m os gs = sum_by-cons (λ g. m (members os g)) g gs in
-    let h = split m v is (k == g) o (members os g) in
+    let h = measure_splits_first m v is (k == g) o (members os g) in
     let r = one_more m v is o os gs in
     omega (arith, a, b, d, h, r)
 
 all_of : (m : List DumpedObject → ℕ) (v : DumpedObject → ℕ) → IsMeasure m v → (n : ℕ) (objects : List DumpedObject)
     → AllByRecursion (λ o. row_number o.kind < n) objects → by_rows m objects (range_with_len 0 n) ≡ m objects
-all_of m v is n [] within = nothing m v is (range_with_len 0 n) ∙ sym is.nil
+all_of m v is n [] within = no_objects_measure_nothing m v is (range_with_len 0 n) ∙ sym is.nil
 all_of m v is n (o ∷ os) within =
     one_more m v is o os (range_with_len 0 n)
-    ∙ ap₂ (λ (a b : ℕ). a + b) (once (row_number o.kind) (v o) n 0 (omega arith) (omega (arith, within.0))) (all_of m v is n os within.1)
+    ∙ ap₂ (λ (a b : ℕ). a + b) (once_in_range (row_number o.kind) (v o) n 0 (omega arith) (omega (arith, within.0))) (all_of m v is n os within.1)
     ∙ sym (is.cons o os)
 
 -- ---- bounds
@@ -142,8 +142,8 @@ bytes_small : (ids : IdSize) (classes : List Class) (o : DumpedObject) → IsCou
 bytes_small ids classes o k = value_small ids classes o.kind (length o.words) k.0 k.1
 
 -- the objects of an image can be counted
-pub countable : (image : Image) → IsDumpable image → AreCountable image.classes image.objects
-countable image d = recursion_from_All (IsCountable image.classes) image.objects (λ i o h. (d.known i o h, d.small i o h))
+pub image_is_countable : (image : Image) → IsDumpable image → AreCountable image.classes image.objects
+image_is_countable image d = recursion_from_All (IsCountable image.classes) image.objects (λ i o h. (d.known i o h, d.small i o h))
 
 -- and those that pass a test
 pub some_countable : (classes : List Class) (test : DumpedObject → Bool) (objects : List DumpedObject) → AreCountable classes objects
@@ -169,31 +169,31 @@ sum_map : {X : Type 0} (f : X → ℕ) (h : ℕ → X) (gs : List ℕ) → sum_b
 sum_map f h [] = refl
 sum_map f h (g ∷ gs) = sum_by-cons f (h g) (map h gs) ∙ ap (λ (r : ℕ). f (h g) + r) (sum_map f h gs) ∙ sym (sum_by-cons (λ g. f (h g)) g gs)
 
-lengths : IsMeasure length (λ o. 1)
-lengths = record { nil = refl; cons = λ o os. omega arith }
+length_is_measure : IsMeasure length (λ o. 1)
+length_is_measure = record { nil = refl; cons = λ o os. omega arith }
 
-bytes : (ids : IdSize) (classes : List Class) → IsMeasure (sum_by (object_bytes ids classes)) (object_bytes ids classes)
-bytes ids classes = record { nil = refl; cons = λ o os. sum_by-cons (object_bytes ids classes) o os }
+bytes_are_measure : (ids : IdSize) (classes : List Class) → IsMeasure (sum_by (object_bytes ids classes)) (object_bytes ids classes)
+bytes_are_measure ids classes = record { nil = refl; cons = λ o os. sum_by-cons (object_bytes ids classes) o os }
 
 -- the total of all rows is that of the objects
-pub total : (ids : IdSize) (classes : List Class) (objects : List DumpedObject) → AreCountable classes objects
+pub rows_total_is_that_of_objects : (ids : IdSize) (classes : List Class) (objects : List DumpedObject) → AreCountable classes objects
     → sum_of (rows_of ids classes objects) ≡ total_of ids classes objects
 unfolding row_of
-total ids classes objects each =
+rows_total_is_that_of_objects ids classes objects each =
     let n = class_rows + length classes in
     let gs = range_with_len 0 n in
     let all = rows_there classes objects each in
     let a : (sum_of (rows_of ids classes objects)).objects ≡ length objects =
-    sum_map (λ (r : Row). r.objects) (row_of ids classes objects) gs ∙ all_of length (λ o. 1) lengths n objects all in
+    sum_map (λ (r : Row). r.objects) (row_of ids classes objects) gs ∙ all_of length (λ o. 1) length_is_measure n objects all in
     let b : (sum_of (rows_of ids classes objects)).bytes ≡ sum_by (object_bytes ids classes) objects =
-    sum_map (λ (r : Row). r.bytes) (row_of ids classes objects) gs ∙ all_of (sum_by (object_bytes ids classes)) (object_bytes ids classes) (bytes ids classes) n objects all in
+    sum_map (λ (r : Row). r.bytes) (row_of ids classes objects) gs ∙ all_of (sum_by (object_bytes ids classes)) (object_bytes ids classes) (bytes_are_measure ids classes) n objects all in
     ap₂ (λ (a b : ℕ). let r : Row = record { objects = a; bytes = b } in r) a b
 
 -- the total of countable rows is small
 pub sums_small : (ids : IdSize) (classes : List Class) (objects : List DumpedObject) (rows : List Row) → rows ≡ rows_of ids classes objects
     → AreCountable classes objects → length objects ≤ object_limit → ((sum_of rows).objects < 2 ^ 64) × ((sum_of rows).bytes < 2 ^ 64)
 sums_small ids classes objects rows e each few =
-    let t = ap (λ (rs : List Row). sum_of rs) e ∙ total ids classes objects each in
+    let t = ap (λ (rs : List Row). sum_of rs) e ∙ rows_total_is_that_of_objects ids classes objects each in
     let a : (sum_of rows).objects ≡ length objects = ap (λ (r : Row). r.objects) t in
     let b : (sum_of rows).bytes ≡ (total_of ids classes objects).bytes = ap (λ (r : Row). r.bytes) t in
     let small = sum_by-le (object_bytes ids classes) 16777176 objects (λ i o h. bytes_small ids classes (slice_index_or objects i o) (All-from_recursion (IsCountable classes) objects each i o h)) in
@@ -201,10 +201,10 @@ sums_small ids classes objects rows e each few =
 
 -- so are those of all objects of an image, and of some of them
 pub all_rows_small : (ids : IdSize) (image : Image) (rows : List Row) → IsDumpable image → rows ≡ rows_of ids image.classes image.objects → ((sum_of rows).objects < 2 ^ 64) × ((sum_of rows).bytes < 2 ^ 64)
-all_rows_small ids image rows d e = sums_small ids image.classes image.objects rows e (countable image d) d.few_objects
+all_rows_small ids image rows d e = sums_small ids image.classes image.objects rows e (image_is_countable image d) d.few_objects
 
 pub some_rows_small : (ids : IdSize) (image : Image) (test : DumpedObject → Bool) (rows : List Row) → IsDumpable image → rows ≡ rows_of ids image.classes (filter test image.objects) → ((sum_of rows).objects < 2 ^ 64) × ((sum_of rows).bytes < 2 ^ 64)
-some_rows_small ids image test rows d e = sums_small ids image.classes (filter test image.objects) rows e (some_countable image.classes test image.objects (countable image d)) (omega (arith, d.few_objects, filter_few test image.objects))
+some_rows_small ids image test rows d e = sums_small ids image.classes (filter test image.objects) rows e (some_countable image.classes test image.objects (image_is_countable image d)) (omega (arith, d.few_objects, filter_few test image.objects))
 
 -- the rows of classes as a view has them
 pub viewed_rows : (ids : IdSize) (classes seen : List Class) (objects : List DumpedObject) (rows : List Row) → rows ≡ rows_of ids classes objects → seen ≡ classes → length rows ≡ class_rows + length seen
@@ -214,6 +214,6 @@ viewed_rows ids classes seen objects rows e same = ap length e ∙ row_count ids
 pub as_count : (ids : IdSize) (classes : List Class) (objects : List DumpedObject) (rows : List Row) (text : List ℕ) → rows ≡ rows_of ids classes objects
     → AreCountable classes objects → IsRowsText classes rows (sum_of rows) text → IsCountText ids classes objects text
 as_count ids classes objects rows text e each h =
-    let t = ap (λ (rs : List Row). sum_of rs) e ∙ total ids classes objects each in
+    let t = ap (λ (rs : List Row). sum_of rs) e ∙ rows_total_is_that_of_objects ids classes objects each in
     subst (λ (r : Row). IsRowsText classes (rows_of ids classes objects) r text) t
     (subst (λ (rs : List Row). IsRowsText classes rs (sum_of rows) text) e h)

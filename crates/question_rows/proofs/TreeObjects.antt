@@ -9,7 +9,7 @@ use Rattle.hprof_text.specs.Image.{DumpedObject, Image, IsDumpable, IsKnown}
 use Rattle.heap_questions.specs.Graph.{object_with}
 use Rattle.question_words.specs.Names.{IsClassThere}
 use Rattle.question_rows.specs.Trees.{kind_at, object_at_slot}
-use Rattle.question_rows.proofs.NamedObjects.{there}
+use Rattle.question_rows.proofs.NamedObjects.{known_kind_has_class}
 
 found_holds : {A : Type 0} (P : A → Type 0) (test : A → Bool) (xs : List A) (x : A) → AllByRecursion P xs → find test xs ≡ Some x → P x
 found_holds P test [] x all e = absurd (cc e)
@@ -37,7 +37,7 @@ named_known image o p s d e = go (is_reference (kind_at image.classes o s)) e
 
 named_there_by : (image : Image) (o : DumpedObject) (s : ℕ) (named : Option DumpedObject) → IsDumpable image → object_at_slot image o s ≡ named → IfSome named (λ p. IsClassThere image.classes p.kind)
 named_there_by image o s None d e = tt
-named_there_by image o s (Some p) d e = there image.classes p.kind (length p.words) (named_known image o p s d e)
+named_there_by image o s (Some p) d e = known_kind_has_class image.classes p.kind (length p.words) (named_known image o p s d e)
 
 -- its class is there
 pub named_class_there : (image : Image) (o : DumpedObject) (s : ℕ) → IsDumpable image → IfSome (object_at_slot image o s) (λ p. IsClassThere image.classes p.kind)

@@ -40,16 +40,16 @@ branches_on below image level o k =
     ∙ ap (λ l. flat_map f (range_with_len 0 k) ++ l) (append-nil (f (0 + k)))
     ∙ ap (λ i. flat_map f (range_with_len 0 k) ++ f i) same
 
-grows : (below : DumpedObject → List (List ℕ)) (image : Image) (level : ℕ) (o : DumpedObject) (k d : ℕ) → length (branches below image level o k) ≤ length (branches below image level o (k + d))
-grows below image level o k zero =
+deeper_tree_has_more_rows : (below : DumpedObject → List (List ℕ)) (image : Image) (level : ℕ) (o : DumpedObject) (k d : ℕ) → length (branches below image level o k) ≤ length (branches below image level o (k + d))
+deeper_tree_has_more_rows below image level o k zero =
     let e : k ≡ k + 0 = omega arith in
     let same = ap (λ n. length (branches below image level o n)) e in omega (arith, same)
-grows below image level o k (suc d) =
+deeper_tree_has_more_rows below image level o k (suc d) =
     let e : k + suc d ≡ (k + d) + 1 = omega arith in
     let same = ap (λ n. length (branches below image level o n)) e in
     let more = ap (λ l. length l) (branches_on below image level o (k + d)) in
     let long = length-append (branches below image level o (k + d)) (branch below image level o (k + d)) in
-    omega (arith, same, more, long, grows below image level o k d)
+    omega (arith, same, more, long, deeper_tree_has_more_rows below image level o k d)
 
 -- the rows up to a slot, its own included, are no more than all
 pub branches_within : (below : DumpedObject → List (List ℕ)) (image : Image) (level : ℕ) (o : DumpedObject) (k n : ℕ) → k < n → length (branches below image level o k) + length (branch below image level o k) ≤ length (branches below image level o n)
@@ -58,7 +58,7 @@ branches_within below image level o k n h =
     let same = ap (λ m. length (branches below image level o m)) e in
     let more = ap (λ l. length l) (branches_on below image level o k) in
     let long = length-append (branches below image level o k) (branch below image level o k) in
-    omega (arith, same, more, long, grows below image level o (k + 1) (n - (k + 1)))
+    omega (arith, same, more, long, deeper_tree_has_more_rows below image level o (k + 1) (n - (k + 1)))
 
 -- ---- texts
 

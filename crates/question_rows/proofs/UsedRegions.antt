@@ -61,12 +61,12 @@ region_line old row size sweep letters t1 t2 t3 t4 text e1 e2 e3 e4 e5 =
 -- ---- regions that wait
 
 -- the numbers of these regions that wait, of which the first is region r
-abbrev waiting : ℕ → List Region → List ℕ
-waiting r regions = filter_map (λ p. option_map_or (λ u. if u.pending then Some p.0 else None) (used_part p.1) None) (enumerate_from r regions)
+abbrev waiting_region_numbers : ℕ → List Region → List ℕ
+waiting_region_numbers r regions = filter_map (λ p. option_map_or (λ u. if u.pending then Some p.0 else None) (used_part p.1) None) (enumerate_from r regions)
 
 -- how many wait from region r on
 abbrev pub waiting_from : List Region → ℕ → ℕ
-waiting_from regions r = length (waiting r (drop r regions))
+waiting_from regions r = length (waiting_region_numbers r (drop r regions))
 
 pub waiting_all : (regions : List Region) → waiting_from regions 0 ≡ length (pending_regions regions)
 unfolding pending_regions
@@ -81,32 +81,32 @@ region_read [] r = refl
 region_read (x ∷ xs) zero = refl
 region_read (x ∷ xs) (suc r) = region_read xs r
 
-one_read : (regions : List Region) (r : ℕ) → r < length regions → waiting_from regions r ≡ length (cons_option (number_if r (used_at regions r)) (waiting (r + 1) (drop (r + 1) regions)))
+one_read : (regions : List Region) (r : ℕ) → r < length regions → waiting_from regions r ≡ length (cons_option (number_if r (used_at regions r)) (waiting_region_numbers (r + 1) (drop (r + 1) regions)))
 one_read regions r lt =
-    at_drop_more (λ xs. length (waiting r xs)) regions r Empty lt
-    ∙ ap (λ (x : Option UsedRegion). length (cons_option (number_if r x) (waiting (r + 1) (drop (r + 1) regions)))) (region_read regions r)
+    at_drop_more (λ xs. length (waiting_region_numbers r xs)) regions r Empty lt
+    ∙ ap (λ (x : Option UsedRegion). length (cons_option (number_if r x) (waiting_region_numbers (r + 1) (drop (r + 1) regions)))) (region_read regions r)
 
 pub one_waits : (regions : List Region) (r : ℕ) → r < length regions → unwrap_or (option_map (λ (u : UsedRegion). u.pending) (used_at regions r)) false ≡ true → waiting_from regions r ≡ suc (waiting_from regions (r + 1))
 one_waits regions r lt there = one_read regions r lt ∙ go (used_at regions r) there
   where
-    bit : (b : Bool) → b ≡ true → length (cons_option (cond b (Some r) None) (waiting (r + 1) (drop (r + 1) regions))) ≡ suc (waiting_from regions (r + 1))
+    bit : (b : Bool) → b ≡ true → length (cons_option (cond b (Some r) None) (waiting_region_numbers (r + 1) (drop (r + 1) regions))) ≡ suc (waiting_from regions (r + 1))
     bit true e = refl
     bit false e = cc
 
-    go : (x : Option UsedRegion) → unwrap_or (option_map (λ (u : UsedRegion). u.pending) x) false ≡ true → length (cons_option (number_if r x) (waiting (r + 1) (drop (r + 1) regions))) ≡ suc (waiting_from regions (r + 1))
+    go : (x : Option UsedRegion) → unwrap_or (option_map (λ (u : UsedRegion). u.pending) x) false ≡ true → length (cons_option (number_if r x) (waiting_region_numbers (r + 1) (drop (r + 1) regions))) ≡ suc (waiting_from regions (r + 1))
     go None e = cc
     go (Some u) e = bit u.pending e
 
 pub none_waits : (regions : List Region) (r : ℕ) → r < length regions → unwrap_or (option_map (λ (u : UsedRegion). u.pending) (used_at regions r)) false ≡ false → waiting_from regions r ≡ waiting_from regions (r + 1)
 none_waits regions r lt there = one_read regions r lt ∙ go (used_at regions r) there
   where
-    bit : (b : Bool) → b ≡ false → length (cons_option (cond b (Some r) None) (waiting (r + 1) (drop (r + 1) regions))) ≡ waiting_from regions (r + 1)
+    bit : (b : Bool) → b ≡ false → length (cons_option (cond b (Some r) None) (waiting_region_numbers (r + 1) (drop (r + 1) regions))) ≡ waiting_from regions (r + 1)
     bit true e = cc
     bit false e = refl
 
-    go : (x : Option UsedRegion) → unwrap_or (option_map (λ (u : UsedRegion). u.pending) x) false ≡ false → length (cons_option (number_if r x) (waiting (r + 1) (drop (r + 1) regions))) ≡ waiting_from regions (r + 1)
+    go : (x : Option UsedRegion) → unwrap_or (option_map (λ (u : UsedRegion). u.pending) x) false ≡ false → length (cons_option (number_if r x) (waiting_region_numbers (r + 1) (drop (r + 1) regions))) ≡ waiting_from regions (r + 1)
     go None e = refl
     go (Some u) e = bit u.pending e
 
 pub waiting_none : (regions : List Region) (r : ℕ) → length regions ≤ r → waiting_from regions r ≡ 0
-waiting_none regions r le = at_drop_all (λ xs. length (waiting r xs)) regions r le
+waiting_none regions r le = at_drop_all (λ xs. length (waiting_region_numbers r xs)) regions r le

@@ -131,7 +131,7 @@ pub fn retained_answer<V: View>(alloc: Global, view: &V, id: u64) -> Result<Vec<
     }
 }
 
-// Returns the lines of what the object with this id retains. Fails with NoMemory.
+// Returns the lines of what the object with this id dominates. Fails with NoMemory.
 fn retained_text<V: View>(alloc: Global, view: &V, id: u64) -> Result<Vec<u8>, Refusal>
     ensures { ReturnsText (IsRetainedCount id (V.ids view.now) (V.image view.now)) result }
 {

@@ -98,7 +98,7 @@ fn push_rows(
         text.old.items text.new.items result }
 {
     match kind {
-        ObjKind::Instance(class) => push_fields(text, classes, class, words, from),
+        ObjKind::Instance(class) => push_fields(text, classes, class as u64, words, from),
         ObjKind::Array(_) => push_elements(text, Kind::Object, words, from),
         ObjKind::Prim(kind) => push_elements(text, kind, words, from),
     }

@@ -25,9 +25,9 @@ struct Rows {
     room: usize,
 }
 
-/// Returns the answer of `show` about a view: the slots of an object and of those below it, `levels` levels down. Fails with NoObject
-/// if the id names no object, with TooLarge if there are more than `ROW_LIMIT` rows, and with NoMemory if an allocation fails. Reads
-/// the id of each object once.
+/// Returns the answer of `show` about a view: the slots of an object and of those below it, `levels` levels down. Fails with
+/// NoObject if the id names no object, with TooLarge if there are more than `ROW_LIMIT` rows, and with NoMemory if an allocation
+/// fails. Reads the id of each object once.
 pub fn tree_answer<V: View>(
     alloc: Global,
     view: &V,
@@ -194,8 +194,8 @@ fn push_tree_row(
     push_words(text, b"\n")
 }
 
-// Appends a space, and the name of a slot of an object of this kind, or its number in an array. The class must be there. Fails if an
-// allocation fails.
+// Appends a space, and the name of a slot of an object of this kind, or its number in an array. The class must be there. Fails if
+// an allocation fails.
 #[tactic(auto, unfolding(crate::specs::Trees::and_slot_name))]
 fn push_slot_name(
     text: &mut Vec<u8>,
@@ -209,7 +209,7 @@ fn push_slot_name(
     match kind {
         ObjKind::Instance(class) => {
             push_words(text, b" ")?;
-            push_words(text, slot_name(classes, class, slot))
+            push_words(text, slot_name(classes, class as u64, slot))
         }
         _ => push_number(text, slot),
     }

@@ -33,7 +33,7 @@ use Rattle.question_grammar.specs.Orders.{order_in}
 use Rattle.question_text.proofs.NotedLines.{order_opens_none}
 use Rattle.heap_orders.specs.Redos.{GoesForward, GoesOn, IsBackAt, IsRedoOf, LeadsTo, Redo, StopsBefore, TakesAgain, no_redo, noted, with_step, with_steps, with_undone}
 use Rattle.question_text.proofs.QuestionsLeftOut.{known_is, unknown_is}
-use Rattle.heap_orders.proofs.RetakenSteps.{action_keeps, again_up, leads_here, rewind_leads, stopped_for_memory, undone}
+use Rattle.heap_orders.proofs.RetakenSteps.{action_keeps, again_up, leads_here, rewind_leads, stopped_for_memory, local_rewind_is_undone}
 
 -- ---- orders
 
@@ -155,7 +155,7 @@ forward_takes_back : (n place : ℕ) (m x k : Machine) (r u s : Redo) (text : Li
     → IsBackAt m r text k s ⊎ (text ≡ refused_text NoMemory)
 forward_takes_back n place m x k r u s text l few acts is h =
     let all = is ∙ noted_all n r few in
-    let j = rewind_leads m x r n l.0 few (undone m x n place acts) l.1 in
+    let j = rewind_leads m x r n l.0 few (local_rewind_is_undone m x n place acts) l.1 in
     forward_back n l.0 m x k r u s text l.1 all (subst (λ (y : Redo). LeadsTo x y l.0) (sym all) j) h
 
 pub line_takes_back : (n place : ℕ) (l text : List ℕ) (c d e : Asking) → Keeps c → c.redo.ahead + n ≤ length c.redo.events → AskingActs c (Rewind n) (Place place) d → order_in d.bookmarks d.local.machine.trail.current l ≡ Some (Forward n) → AskingAnswers l d text e

@@ -69,9 +69,9 @@ nothing_behind None f g x h e = refl
 nothing_behind (Some c) f g x h e = h c e
 
 -- what would go on from a number reads nothing, if there is a name instead
-instead : {A B C D : Type 0} (o : Option C) (p : Option D) (f : C → Option A) (g : D → Option B) (x : A) → ((c : C) → o ≡ Some c → p ≡ None) → option_and_then f o ≡ Some x → option_and_then g p ≡ None
-instead None p f g x h e = absurd (cc e)
-instead (Some c) p f g x h e = ap (λ q. option_and_then g q) (h c refl)
+name_instead_of_number : {A B C D : Type 0} (o : Option C) (p : Option D) (f : C → Option A) (g : D → Option B) (x : A) → ((c : C) → o ≡ Some c → p ≡ None) → option_and_then f o ≡ Some x → option_and_then g p ≡ None
+name_instead_of_number None p f g x h e = absurd (cc e)
+name_instead_of_number (Some c) p f g x h e = ap (λ q. option_and_then g q) (h c refl)
 
 mapped_from : {A B : Type 0} (f : A → B) (o : Option A) (y : B) → option_map f o ≡ Some y → (x : A) × (o ≡ Some x)
 mapped_from f None y e = absurd (cc e)
@@ -87,7 +87,7 @@ new_by_name_alone classes ws e is =
     nothing_behind (next_number m.1) (λ (r : Read). option_and_then (λ (k : Read). at_end (New m.0 r.0 k.0) k.1) (next_class classes r.1))
     (λ (b : Read). option_and_then (λ (c : Read). at_end (m.0, b.0, c.0) c.1) (next_number b.1)) e
     (λ r is.
-    instead (next_class classes r.1) (next_number r.1) (λ (k : Read). at_end (New m.0 r.0 k.0) k.1) (λ (c : Read). at_end (m.0, r.0, c.0) c.1) e
+    name_instead_of_number (next_class classes r.1) (next_number r.1) (λ (k : Read). at_end (New m.0 r.0 k.0) k.1) (λ (c : Read). at_end (m.0, r.0, c.0) c.1) e
     (class_is_no_number classes r.1) is) is) is
 
 array_by_name_alone : (classes : List Class) (ws : List (List ℕ)) (e : Event) → array_by_name classes ws ≡ Some e → four_numbers ws ≡ None
@@ -99,7 +99,7 @@ array_by_name_alone classes ws e is =
     nothing_behind (next_number m.1) (λ (r : Read). option_and_then (λ (k : Read). option_and_then (λ (n : Read). at_end (NewArray m.0 r.0 k.0 n.0) n.1) (next_number k.1)) (next_class classes r.1))
     (λ (b : Read). option_and_then (λ (c : Read). option_and_then (λ (d : Read). at_end (m.0, b.0, c.0, d.0) d.1) (next_number c.1)) (next_number b.1)) e
     (λ r is.
-    instead (next_class classes r.1) (next_number r.1) (λ (k : Read). option_and_then (λ (n : Read). at_end (NewArray m.0 r.0 k.0 n.0) n.1) (next_number k.1))
+    name_instead_of_number (next_class classes r.1) (next_number r.1) (λ (k : Read). option_and_then (λ (n : Read). at_end (NewArray m.0 r.0 k.0 n.0) n.1) (next_number k.1))
     (λ (c : Read). option_and_then (λ (d : Read). at_end (m.0, r.0, c.0, d.0) d.1) (next_number c.1)) e (class_is_no_number classes r.1) is) is) is
 
 load_by_name_alone : (state : HeapState) (ws : List (List ℕ)) (e : Event) → load_by_name state ws ≡ Some e → four_numbers ws ≡ None
@@ -114,7 +114,7 @@ load_by_name_alone state ws e is =
     nothing_behind (next_number to.1) (λ (r : Read). option_and_then (λ (s : Read). at_end (Load m.0 to.0 r.0 s.0) s.1) (next_slot state m.0 r.0 r.1))
     (λ (c : Read). option_and_then (λ (d : Read). at_end (m.0, to.0, c.0, d.0) d.1) (next_number c.1)) e
     (λ r is.
-    instead (next_slot state m.0 r.0 r.1) (next_number r.1) (λ (s : Read). at_end (Load m.0 to.0 r.0 s.0) s.1) (λ (d : Read). at_end (m.0, to.0, r.0, d.0) d.1) e
+    name_instead_of_number (next_slot state m.0 r.0 r.1) (next_number r.1) (λ (s : Read). at_end (Load m.0 to.0 r.0 s.0) s.1) (λ (d : Read). at_end (m.0, to.0, r.0, d.0) d.1) e
     (slot_is_no_number state m.0 r.0 r.1) is) is) is) is
 
 write_by_name_alone : (state : HeapState) (ws : List (List ℕ)) (x : ℕ × ℕ × ℕ × ℕ) → write_by_name state ws ≡ Some x → four_numbers ws ≡ None
@@ -126,7 +126,7 @@ write_by_name_alone state ws x is =
     nothing_behind (next_number m.1) (λ (r : Read). option_and_then (λ (s : Read). option_and_then (λ (n : Read). at_end (m.0, r.0, s.0, n.0) n.1) (next_number s.1)) (next_slot state m.0 r.0 r.1))
     (λ (b : Read). option_and_then (λ (c : Read). option_and_then (λ (d : Read). at_end (m.0, b.0, c.0, d.0) d.1) (next_number c.1)) (next_number b.1)) x
     (λ r is.
-    instead (next_slot state m.0 r.0 r.1) (next_number r.1) (λ (s : Read). option_and_then (λ (n : Read). at_end (m.0, r.0, s.0, n.0) n.1) (next_number s.1))
+    name_instead_of_number (next_slot state m.0 r.0 r.1) (next_number r.1) (λ (s : Read). option_and_then (λ (n : Read). at_end (m.0, r.0, s.0, n.0) n.1) (next_number s.1))
     (λ (c : Read). option_and_then (λ (d : Read). at_end (m.0, r.0, c.0, d.0) d.1) (next_number c.1)) x (slot_is_no_number state m.0 r.0 r.1) is) is) is
 
 class_line_of : (sup : Option (Option ℕ)) (name : List ℕ) (fields : List (List ℕ)) → sup ≡ None → option_and_then (λ (s : Option ℕ). option_map (λ (fs : List Field). Ask (Step (Event.Class name s fs))) (fields_of_words fields)) sup ≡ None

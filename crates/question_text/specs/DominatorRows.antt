@@ -19,7 +19,7 @@ use Rattle.question_words.specs.Rows.{count_text}
 abbrev pub IsTopThere : List Class → TopObject → Type 0
 IsTopThere classes t = IsClassThere classes t.kind
 
--- the line of an object that no other dominates: its id, how many objects it retains, their bytes, and its class
+-- the line of an object that no other dominates: its id, how many objects it dominates, their bytes, and its class
 unfoldable pub top_text : List Class → TopObject → List ℕ
 top_text classes t =
     line

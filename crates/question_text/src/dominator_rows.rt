@@ -27,7 +27,7 @@ pub(crate) fn dominators_answer<V: View>(
     top_lines(alloc, &classes, tops.as_slice())
 }
 
-// Returns the lines of objects with what each retains, whose classes must be there, and how many they are. Fails with NoMemory.
+// Returns the lines of objects with what each dominates, whose classes must be there, and how many they are. Fails with NoMemory.
 fn top_lines(
     alloc: Global,
     classes: &FirstClasses<'_>,
@@ -42,7 +42,7 @@ fn top_lines(
     Ok(text)
 }
 
-// Appends the lines of objects with what each retains, whose classes must be there. Fails if an allocation fails.
+// Appends the lines of objects with what each dominates, whose classes must be there. Fails if an allocation fails.
 fn push_tops(
     text: &mut Vec<u8>,
     classes: &FirstClasses<'_>,
@@ -58,7 +58,7 @@ fn push_tops(
     Ok(())
 }
 
-// Appends the line of an object with what it retains, whose class must be there. Fails if an allocation fails.
+// Appends the line of an object with what it dominates, whose class must be there. Fails if an allocation fails.
 #[tactic(auto, unfolding(crate::specs::DominatorRows::top_text))]
 fn push_top(
     text: &mut Vec<u8>,

@@ -16,8 +16,8 @@ use session_grammar::words::{Words, is_word};
 use session_text::LineAnswer;
 use std::alloc::{AllocError, Global};
 
-/// Returns the answer of a line that asks for help in a session whose lines write files, or None if the line doesn't ask for help or
-/// its answer is the same as elsewhere. The answer of `help` itself is NoMemory if an allocation fails.
+/// Returns the answer of a line that asks for help in a session whose lines write files, or None if the line doesn't ask for help
+/// or its answer is the same as elsewhere. The answer of `help` itself is NoMemory if an allocation fails.
 pub fn file_help(alloc: Global, line: &[u8]) -> Option<LineAnswer>
     ensures { IsFileHelp (file_help_of line.now) result }
 {

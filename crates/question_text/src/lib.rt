@@ -59,8 +59,8 @@ pub use session::serve_asking;
 pub use state_dump::{DumpCut, dump_at, first_piece, put_pieces};
 pub use watch::{BAD_COMMAND, Watch};
 
-/// States that no line that asks a question, by numbers alone, by names of classes and fields, or along fields, is one of the grammar
-/// of sessions, so that each of these keeps its meaning.
+/// States that no line that asks a question, by numbers alone, by names of classes and fields, or along fields, is one of the
+/// grammar of sessions, so that each of these keeps its meaning.
 pub fn questions_are_new()
     ensures numbers { (b : Bookmarks) (l : List ℕ) (q : Question)
         → question_of b l ≡ Some q → command_of_text l ≡ Bad }
@@ -87,8 +87,8 @@ pub fn orders_are_new()
         → order_in b state l ≡ Some o → command_of_text l ≡ Bad }
 {}
 
-/// States the same of `open` and `open @WORD`, and of the lines that a session notes: `at @P`, `at -` and `name WORD`. None of them asks a
-/// question or for help, or is one of those that change the heap.
+/// States the same of `open` and `open @WORD`, and of the lines that a session notes: `at @P`, `at -` and `name WORD`. None of them
+/// asks a question or for help, or is one of those that change the heap.
 pub fn notes_are_new()
     ensures opens { (b : Bookmarks) (state : HeapState) (l : List ℕ) (place : Option ℕ)
         → place_opened b l ≡ Some place → IsAlone b state l }
@@ -98,8 +98,8 @@ pub fn notes_are_new()
         → name_set l ≡ Some w → IsAlone b state l }
 {}
 
-/// States the same of the lines that write files, `write [AT] PATH` and `draw [AT] PATH`: no session notes them or opens a pin by them
-/// either.
+/// States the same of the lines that write files, `write [AT] PATH` and `draw [AT] PATH`: no session notes them or opens a pin by
+/// them either.
 pub fn file_lines_are_new()
     ensures alone { (b : Bookmarks) (state : HeapState) (l path : List ℕ) (content : FileContent)
         → file_of b l ≡ Some (content, path) → IsAlone b state l }

@@ -121,7 +121,7 @@ fn slot_of_kind(classes: &FirstClasses<'_>, kind: ObjKind, word: &[u8]) -> Optio
     ensures { result ≡ slot_of_kind classes.now kind word.now }
 {
     match kind {
-        ObjKind::Instance(class) => slot_of(classes, class, word),
+        ObjKind::Instance(class) => slot_of(classes, class as u64, word),
         _ => number_of(word),
     }
 }
@@ -155,7 +155,7 @@ fn slot_refers(classes: &FirstClasses<'_>, kind: ObjKind, words: u64, slot: u64)
     ensures { result ≡ slot_refers classes.now kind slot }
 {
     match kind {
-        ObjKind::Instance(class) => classes.slots(class)[slot as usize].is_reference(),
+        ObjKind::Instance(class) => classes.slots(class as u64)[slot as usize].is_reference(),
         ObjKind::Array(_) => true,
         ObjKind::Prim(kind) => kind.is_reference(),
     }

@@ -62,8 +62,8 @@ pub fn first_piece<V: View>(alloc: Global, view: &V, time: u64) -> Result<(Piece
     piece_from(alloc, view, Cursor::Start, time)
 }
 
-/// Puts out the dump of a view, of which the first piece is made, piece by piece: takes no more memory than a piece. Fails with Failed
-/// if a put fails, and with Memory if an allocation fails. What was put out until then is a beginning of the dump.
+/// Puts out the dump of a view, of which the first piece is made, piece by piece: takes no more memory than a piece. Fails with
+/// Failed if a put fails, and with Memory if an allocation fails. What was put out until then is a beginning of the dump.
 pub fn put_pieces<V: View, O: Outlet>(
     alloc: Global,
     view: &V,

@@ -13,6 +13,6 @@ fields_more cs n m k e =
     let s : n ≡ suc m = omega (arith, e) in
     ap (λ x. fields_up cs x (Some k)) s
 
-pub lower : (o : Option ℕ) (a n : ℕ) → IfSome o (λ s. s < a) → a < n → IfSome o (λ s. s < n)
-lower None a n h l = tt
-lower (Some s) a n h l = omega (arith, h, l)
+pub bound_may_grow : (o : Option ℕ) (a n : ℕ) → IfSome o (λ s. s < a) → a < n → IfSome o (λ s. s < n)
+bound_may_grow None a n h l = tt
+bound_may_grow (Some s) a n h l = omega (arith, h, l)

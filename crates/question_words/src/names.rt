@@ -71,7 +71,7 @@ pub fn push_class_name(
 {
     match kind {
         ObjKind::Instance(class) | ObjKind::Array(class) => {
-            push_words(text, classes.name(class))
+            push_words(text, classes.name(class as u64))
         }
         ObjKind::Prim(kind) => push_kind_name(text, kind),
     }

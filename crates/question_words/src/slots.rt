@@ -5,8 +5,8 @@ ghost use Rattle.question_words.specs.ClassSlots.{class_slot, wanted_refusal};
 use heap_class::{ClassNo, FirstClasses, Refusal};
 use heap_questions::Wanted;
 
-/// Tells whether a slot of the objects of a class holds a reference: an array of references may have any slot. Fails with NoClass if
-/// the class isn't there, and with BadSlot if its objects have no such slot.
+/// Tells whether a slot of the objects of a class holds a reference: an array of references may have any slot. Fails with NoClass
+/// if the class isn't there, and with BadSlot if its objects have no such slot.
 #[tactic(auto, unfolding(crate::specs::ClassSlots::class_slot))]
 pub fn class_slot(classes: &FirstClasses<'_>, class: ClassNo, slot: u64) -> Result<bool, Refusal>
     ensures { result ≡ class_slot classes.now class slot }

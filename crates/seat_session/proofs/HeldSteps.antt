@@ -30,7 +30,7 @@ use Rattle.heap_orders.specs.Collections.{IsShortage, TakenStep}
 use Rattle.question_grammar.specs.declared.order.Order.{Order}
 use Rattle.question_grammar.specs.declared.order.Order.TheVariants.{Act, Collect, Forward, ForwardTo, RewindTo}
 use Rattle.question_grammar.specs.Orders.{MayTakeMemory}
-use Rattle.heap_orders.proofs.CycleSteps.{short}
+use Rattle.heap_orders.proofs.CycleSteps.{failure_of_accepted_step_is_shortage}
 use Rattle.question_grammar.specs.Bookmarks.{Bookmarks}
 use Rattle.seat_session.specs.JoinedAnswers.{ActsHeld, AnswersForSeat, AnswersHeld, DoesHeld, Gains, IsHeapOfSeat, IsRefusedHeld, LeavesSeen, entries_of_steps, order_obeyed}
 
@@ -89,7 +89,7 @@ refused_act_has_no_entry k e (inr h) = inr h.0
 
 -- an act that the state allows is never refused with an entry
 pub allowed_act_never_refused : (m n : Machine) (e : Event) (o : Outcome) (r : Refusal) → refusal_of e m.trail.current ≡ None → MayReply m (Step e) n (reply_of o) → MayEnter (reply_of o) → o ≡ outcome.Refused r → ⊥
-allowed_act_never_refused m n e o r free h enters is = go (short m e r free (refused_reply_leaves_machine m n e o r h is).1)
+allowed_act_never_refused m n e o r free h enters is = go (failure_of_accepted_step_is_shortage m e r free (refused_reply_leaves_machine m n e o r h is).1)
   where
     told : (x : Refusal) → r ≡ x → reply_of o ≡ Refused x
     told x same = ap (λ (y : Outcome). reply_of y) is ∙ ap (λ (y : Refusal). Refused y) same

@@ -4,8 +4,6 @@
 mod event_lines;
 mod laws;
 mod lines;
-#[cfg(test)]
-mod tests;
 
 pub use event_lines::push_event;
 pub use laws::lines_are_read;

@@ -137,10 +137,10 @@ prefix_stays_through_command more ih time (Dump pin) t = prefix_of_prefix_is_pre
 prefix_stays_through_command more ih time DumpNow t = let r = done_quietly (OpenPin None) t in prefix_of_prefix_is_prefix t.written _ _ (prefix_stays_through_open_reply time r.1 (pin_in r.1) r.0) (ih (after_open_reply piece_limit time r.1 (pin_in r.1) r.0))
 prefix_stays_through_command more ih time End t = text_is_its_own_prefix t.written
 
-pub stays : (limits : SessionLimits) (time : ℕ) (e : ReadEnd) (ls : List (List ℕ)) (t : Talk) → IsPrefix t.written (talked limits time e ls t).0.written
-stays limits time e [] t = prefix_stays_through_read_end e true t
-stays limits time e (l ∷ []) t = prefix_stays_through_long_line (nat_lt (longest_line limits) (length l)) t (at_read_end e (length l == 0) t) (prefix_stays_through_read_end e (length l == 0) t)
-stays limits time e (l ∷ m ∷ ms) t = prefix_stays_through_long_line (nat_lt (longest_line limits) (length l)) t (go_on (talked limits time e (m ∷ ms)) time (command_of l) t) (prefix_stays_through_command (talked limits time e (m ∷ ms)) (λ u. stays limits time e (m ∷ ms) u) time (command_of l) t)
+pub written_stays_prefix : (limits : SessionLimits) (time : ℕ) (e : ReadEnd) (ls : List (List ℕ)) (t : Talk) → IsPrefix t.written (talked limits time e ls t).0.written
+written_stays_prefix limits time e [] t = prefix_stays_through_read_end e true t
+written_stays_prefix limits time e (l ∷ []) t = prefix_stays_through_long_line (nat_lt (longest_line limits) (length l)) t (at_read_end e (length l == 0) t) (prefix_stays_through_read_end e (length l == 0) t)
+written_stays_prefix limits time e (l ∷ m ∷ ms) t = prefix_stays_through_long_line (nat_lt (longest_line limits) (length l)) t (go_on (talked limits time e (m ∷ ms)) time (command_of l) t) (prefix_stays_through_command (talked limits time e (m ∷ ms)) (λ u. written_stays_prefix limits time e (m ∷ ms) u) time (command_of l) t)
 
 -- ---- a dump of fewer pieces
 

@@ -123,7 +123,7 @@ dump_over_at_piece_limit acts pin time start number c total text o e =
     let count : number + 0 ≡ piece_limit = omega (arith, e) in
     subst (λ k. Dumps acts pin time k start 0 text c) count (subst (λ l. Dumps acts pin time (number + 0) start 0 l c) (append-nil text) (o 0 [] c (refl, refl)))
 
--- ---- what was added to a page
+-- ---- what was added to a reply buffer
 
 -- a whole dump
 pub writes_text : {S : Type 0} (dumps : DumpText S) (c c' : S) (text page : List ℕ) (a : Outgoing) (page' : List ℕ) (b : Outgoing) (r : Bool)

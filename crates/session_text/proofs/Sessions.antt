@@ -20,7 +20,7 @@ use Rattle.session_text.specs.Writes.{IsCutShort, IsTextWritten}
 use Rattle.session_text.proofs.AnsweredLines.{served_lines_then_failed_write}
 use Rattle.session_text.proofs.SessionCommands.{parts, talk, acts}
 use Rattle.session_text.proofs.SessionLines.{line_talked_then_rest, line_and_later_lines_fit, nothing_left_is_eof, answered_lines_pass, FitsEnd, clean_end_is_talked}
-use Rattle.session_text.proofs.CutAnswers.{granted_talk_fits_lines, text_is_its_own_prefix, stays, begun_command_begins_talk}
+use Rattle.session_text.proofs.CutAnswers.{granted_talk_fits_lines, text_is_its_own_prefix, written_stays_prefix, begun_command_begins_talk}
 
 session_lines : (limits : SessionLimits) (time : ℕ) (e : ReadEnd) (bytes rest : List ℕ) (c : Local) (text : List ℕ) (d : Local) (k : IsTalk limits (AnswersCommand acts all_bad time) bytes c rest text d) (ms : List Allocation)
     → session_of limits c.machine ((answered_lines_pass limits time k.lines c text d k.talks).found ++ ms) time bytes e ≡ talked limits time e (parts rest) (talk d.machine ms text)
@@ -94,7 +94,7 @@ record CutTail (limits : SessionLimits) (time : ℕ) (rest : List ℕ) (c : Loca
 
 broken_tail : (limits : SessionLimits) (time : ℕ) (a b : Incoming) (rest : List ℕ) (c : Local) (text : List ℕ) (d : Local) (w w' : Outgoing) → FailsWhileWriting limits (Begins acts all_bad time) text rest a b c w d w' → CutTail limits time rest c text d w w'
 broken_tail limits time a b rest c text d w w' (inl ((l, tail, starts, h, cut), same)) =
-    let g = begun_command_begins_talk time (command_of l) c tail d text (talked limits time Over (parts starts.1)) (λ u. stays limits time Over (parts starts.1) u) h in
+    let g = begun_command_begins_talk time (command_of l) c tail d text (talked limits time Over (parts starts.1)) (λ u. written_stays_prefix limits time Over (parts starts.1) u) h in
     let t = talk c.machine g.found text in
     record {
       end = Over;
@@ -123,7 +123,7 @@ broken_tail limits time a b rest c text d w w' (inr (inr (line, none, same, cut)
       end = Over;
       found = [];
       tail = [];
-      so = subst (λ l. IsPrefix l (talked limits time Over (parts rest) t).0.written) (sym (append-nil text)) (stays limits time Over (parts rest) t);
+      so = subst (λ l. IsPrefix l (talked limits time Over (parts rest) t).0.written) (sym (append-nil text)) (written_stays_prefix limits time Over (parts rest) t);
       fit = granted_talk_fits_lines time (parts rest) t refl;
       cut = all;
       stops = inr (inr (line, ap (λ (x : Local). x.machine) same, cut_answer_in_full_text (text ++ []) text w.out w'.out all.0 (subst (λ l. IsPrefix l text) (sym (append-nil text)) (text_is_its_own_prefix text))));

@@ -59,7 +59,7 @@ DumpsNow {S} acts time n c text c' =
     (r : Reply) × (opened : S) × acts c (OpenPin None) r opened
     × ClosesAfter acts time r (pin_in r) n opened text c'
 
--- a dump was added to a page, or a write failed in a dump up to some piece
+-- a dump was added to a reply buffer, or a write failed in a dump up to some piece
 abbrev pub WritesDump : {S : Type 0} → DumpText S → S → S → List ℕ → Outgoing → List ℕ → Outgoing
     → Bool → Type 0
 WritesDump dumps c c' page a page' b true =

@@ -21,7 +21,7 @@ abbrev pub ended_of : Ended → Bool → Ended
 ended_of ended true = ended
 ended_of ended false = WriteFault
 
--- the page and an ending's line were put out, or the session ended by a write that failed in them
+-- the reply buffer and an ending's line were put out, or the session ended by a write that failed in them
 abbrev pub EndsWith : List ℕ → List ℕ → Outgoing → Outgoing → Ended → Ended → Type 0
 EndsWith line page w w' ended result =
     (written : Bool) × IsTextWritten (page ++ line) w w' written × (result ≡ ended_of ended written)

@@ -66,7 +66,7 @@ IsBrokenOff limits begins text rest c w c' w' =
 
 -- ---- one line, and all whole lines of a buffer
 
--- a line's command was answered, and the answer added to a page
+-- a line's command was answered, and the answer added to a reply buffer
 abbrev pub IsLineFlow : {S : Type 0} → Reaction S → Reaction S → Command → S → List ℕ → Outgoing
     → S
     → List ℕ → Outgoing → Flow → Type 0
@@ -78,7 +78,7 @@ IsLineFlow says begins k c page w c' page' w' Long = ⊥
 IsLineFlow says begins k c page w c' page' w' Fault =
     (text : List ℕ) × begins c text c' × IsTextAdded text page w page' w' false
 
--- all whole lines of a buffer were answered up to a stop, over an empty page
+-- all whole lines of a buffer were answered up to a stop, over an empty reply buffer
 abbrev pub AreLinesAnswered : {S : Type 0} → SessionLimits → AnswerRelation S → AnswerRelation S → List ℕ → S
     → Outgoing → List ℕ → S → List ℕ
     → Outgoing → Flow → Type 0
@@ -95,7 +95,7 @@ AreLinesAnswered {S} limits says begins bytes c w rest c' page' w' Fault =
     (left : List ℕ) × (text : List ℕ) × (between : S) × IsTalk limits says bytes c left text between
     × IsBrokenOff limits begins text left between w c' w'
 
--- the first lines of some bytes were answered, and the answers added to a page
+-- the first lines of some bytes were answered, and the answers added to a reply buffer
 abbrev pub AreFirstAnswered : {S : Type 0} → SessionLimits → AnswerRelation S → List ℕ → S → List ℕ → Outgoing
     → List ℕ → S
     → List ℕ → Outgoing → Type 0

@@ -15,7 +15,7 @@ abbrev pub IsTextWritten : List ℕ → Outgoing → Outgoing → Bool → Type 
 IsTextWritten bytes a b true = (b.out ≡ a.out ++ bytes) × (b.failures ≡ a.failures)
 IsTextWritten bytes a b false = IsCutShort bytes a.out b.out × (b.failures ≡ a.failures + 1)
 
--- the page and then the text were put out up to what the page has now, or a beginning of them if a write failed
+-- the reply buffer and then the text were put out up to what the reply buffer has now, or a beginning of them if a write failed
 abbrev pub IsTextAdded : List ℕ → List ℕ → Outgoing → List ℕ → Outgoing → Bool → Type 0
 IsTextAdded text page a page' b true =
     (put : List ℕ) × (b.out ≡ a.out ++ put) × (page ++ text ≡ put ++ page')

@@ -15,7 +15,7 @@ use dump_pump::Outlet;
 use heap_step::{Answer, IntoEvent};
 use heap_trail::{Action, Reply};
 
-/// Does an action and adds its reply to a page. Returns false if a write failed.
+/// Does an action and adds its reply to a reply buffer. Returns false if a write failed.
 #[inline(always)]
 pub(crate) fn answer_action<O: Outlet, C: Commands>(
     action: Action,
@@ -31,7 +31,7 @@ pub(crate) fn answer_action<O: Outlet, C: Commands>(
     add_reply(page, writer, reply)
 }
 
-// Adds a reply to a page, which is flushed whenever it is full. Returns false if a write failed.
+// Adds a reply to a reply buffer, which is flushed whenever it is full. Returns false if a write failed.
 #[inline(always)]
 fn add_reply<O: Outlet>(page: &mut Page, writer: &mut O, reply: Reply) -> bool
     ensures { IsTextAdded (reply_text reply) page.old (O.seen writer.old) page.new
@@ -55,7 +55,7 @@ fn is_done(reply: &Reply) -> bool
     matches!(reply, Reply::Answered(Answer::Done))
 }
 
-// Adds a reply to a page, which is flushed whenever it is full.
+// Adds a reply to a reply buffer, which is flushed whenever it is full.
 #[inline(never)]
 fn write_other<O: Outlet>(page: &mut Page, writer: &mut O, reply: Reply) -> bool
     ensures { IsTextAdded (reply_text reply) page.old (O.seen writer.old) page.new
@@ -64,7 +64,7 @@ fn write_other<O: Outlet>(page: &mut Page, writer: &mut O, reply: Reply) -> bool
     write_reply(page, writer, &reply)
 }
 
-/// Takes a step and adds its reply to a page. Returns false if a write failed.
+/// Takes a step and adds its reply to a reply buffer. Returns false if a write failed.
 #[inline(always)]
 pub(crate) fn answer_step<E: IntoEvent, O: Outlet, C: Commands>(
     event: E,

@@ -45,7 +45,7 @@ pub(crate) fn next_unless(written: bool) -> Flow
     if written { Flow::Next } else { Flow::Fault }
 }
 
-// Adds the answer of a line that the grammar doesn't know to a page, which is flushed whenever it is full.
+// Adds the answer of a line that the grammar doesn't know to a reply buffer, which is flushed whenever it is full.
 pub(crate) fn write_line_answer<O: Outlet>(
     page: &mut Page,
     writer: &mut O,
@@ -65,7 +65,7 @@ pub(crate) fn write_line_answer<O: Outlet>(
     }
 }
 
-/// Answers the whole lines of a buffer, up to the first that is too long, and adds their answers to an empty page, which is
+/// Answers the whole lines of a buffer, up to the first that is too long, and adds their answers to an empty reply buffer, which is
 /// flushed whenever it is full.
 pub(crate) fn answer_lines<O: Outlet, C: Commands>(
     context: Context,
@@ -130,7 +130,7 @@ fn answer_mutators<O: Outlet, C: Commands>(
     true
 }
 
-// Answers the first line of a buffer if it is whole, and adds the answer to a page, which is flushed whenever it is full.
+// Answers the first line of a buffer if it is whole, and adds the answer to a reply buffer, which is flushed whenever it is full.
 // Returns None if no line is whole.
 #[inline(never)]
 fn answer_first<O: Outlet, C: Commands>(
@@ -169,7 +169,7 @@ fn answer_first<O: Outlet, C: Commands>(
     Some(Flow::Next)
 }
 
-// Adds the answer to a line without its CR to a page, which is flushed whenever it is full.
+// Adds the answer to a line without its CR to a reply buffer, which is flushed whenever it is full.
 #[inline(never)]
 fn answer_text<O: Outlet, C: Commands>(
     context: Context,

@@ -16,7 +16,7 @@ const DATA_LIMIT: usize = 64;
 // The number of bytes whose digits are added at once.
 const RUN: usize = 16;
 
-/// Adds the data lines of a piece to a page, which is flushed whenever it is full. Returns false if a write failed.
+/// Adds the data lines of a piece to a reply buffer, which is flushed whenever it is full. Returns false if a write failed.
 pub(crate) fn write_data<O: Outlet>(page: &mut Page, outlet: &mut O, bytes: &[u8]) -> bool
     ensures { IsTextAdded (data_lines bytes.now) page.old (O.seen outlet.old) page.new
         (O.seen outlet.new) result }

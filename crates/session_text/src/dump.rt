@@ -40,7 +40,7 @@ pub(crate) fn write_dump<O: Outlet, C: Commands>(
     true
 }
 
-// Adds the last line of a dump to a page, which is flushed first unless it has room for one more line. Returns false if a
+// Adds the last line of a dump to a reply buffer, which is flushed first unless it has room for one more line. Returns false if a
 // write failed.
 fn write_total<O: Outlet>(page: &mut Page, outlet: &mut O, total: u64) -> bool
     ensures { IsTextAdded (total_line total) page.old (O.seen outlet.old) page.new
@@ -52,7 +52,7 @@ fn write_total<O: Outlet>(page: &mut Page, outlet: &mut O, total: u64) -> bool
     write_number_line(page, outlet, total)
 }
 
-/// Adds a dump of the current state to a page: opens a pin, dumps it as `write_dump` does, and closes it, also if a write
+/// Adds a dump of the current state to a reply buffer: opens a pin, dumps it as `write_dump` does, and closes it, also if a write
 /// fails. Returns false if one did.
 pub(crate) fn write_dump_now<O: Outlet, C: Commands>(
     page: &mut Page,

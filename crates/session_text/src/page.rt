@@ -1,4 +1,4 @@
-//! Pages: text that isn't written yet.
+//! Reply buffers: text that isn't written yet.
 ghost use Rattle.std.specs.Prelude.{◌≡◌, ◌+◌, ◌*◌, ◌≤◌, ◌++◌, [], codes, take, length, IfOk};
 ghost use Rattle.hex.specs.Hex.{encode_lower};
 ghost use Rattle.session_text.specs.Replies.{and_number};
@@ -8,13 +8,13 @@ use crate::digits::write_digits;
 use std::alloc::{AllocError, Global};
 use std::marker::Model;
 
-/// The largest number of bytes of a page.
+/// The largest number of bytes of a reply buffer.
 pub const PAGE_LIMIT: usize = 8192;
 
 /// The largest number of bytes of a space and a number.
 pub const NUMBER_LIMIT: usize = 21;
 
-/// Text that isn't written yet. All memory is allocated when the page is made. Contracts see the bytes.
+/// Text that isn't written yet. All memory is allocated when the reply buffer is made. Contracts see the bytes.
 #[derive(Drop)]
 pub struct Page {
     bytes: Vec<u8>,
@@ -33,7 +33,7 @@ impl Model for Page {
 }
 
 impl Page {
-    /// Creates an empty page. Fails if the allocation fails.
+    /// Creates an empty reply buffer. Fails if the allocation fails.
     pub fn new(alloc: Global) -> Result<Page, AllocError>
         ensures { IfOk result (λ p. p ≡ []) }
     {

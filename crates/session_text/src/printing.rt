@@ -70,7 +70,7 @@ pub fn printed(alloc: Global, answer: LineAnswer) -> Result<Vec<u8>, AllocError>
     }
 }
 
-// Returns what is printed of an answer, written by way of a page. Fails if an allocation fails.
+// Returns what is printed of an answer, written by way of a reply buffer. Fails if an allocation fails.
 fn written(alloc: Global, answer: &LineAnswer) -> Result<Vec<u8>, AllocError>
     ensures { IfOk result (λ v. v.items ≡ line_answer_text answer.now) }
 {

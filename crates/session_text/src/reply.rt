@@ -28,7 +28,7 @@ pub fn cause_word(cause: LostCause) -> &'static [u8]
     }
 }
 
-/// Adds the line of an event's answer to a page, which is flushed first unless it has room for one more line. Returns false
+/// Adds the line of an event's answer to a reply buffer, which is flushed first unless it has room for one more line. Returns false
 /// if a write failed.
 #[inline(always)]
 pub(crate) fn write_answer<O: Outlet>(page: &mut Page, outlet: &mut O, answer: Answer) -> bool
@@ -109,7 +109,7 @@ pub(crate) fn write_object<O: Outlet>(page: &mut Page, outlet: &mut O, id: u64) 
     true
 }
 
-/// Adds a reply to a page, which is flushed whenever it is full. Returns false if a write failed.
+/// Adds a reply to a reply buffer, which is flushed whenever it is full. Returns false if a write failed.
 pub(crate) fn write_reply<O: Outlet>(page: &mut Page, outlet: &mut O, reply: &Reply) -> bool
     ensures { IsTextAdded (reply_text reply.now) page.old (O.seen outlet.old) page.new
         (O.seen outlet.new) result }

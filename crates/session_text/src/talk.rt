@@ -15,7 +15,7 @@ use dump_pump::{Inlet, Outlet, Take};
 use std::alloc::Global;
 
 /// Reads lines and writes the answers of the commands, in order, until an ending. The sizes of single reads and writes don't
-/// show. Answers wait in a page, which is put out when it is full, before each read and at the end.
+/// show. Answers wait in a reply buffer, which is put out when it is full, before each read and at the end.
 ///
 /// After a write that failed nothing more is read and no line is acted on. What is out is then a beginning of the answers to
 /// the lines that were acted on and of the line of the ending, with all answers to lines that were whole before the last
@@ -88,7 +88,7 @@ fn talk<I: Inlet, O: Outlet, C: Commands>(
     }
 }
 
-// Puts out a session's page and the line of an ending.
+// Puts out a session's reply buffer and the line of an ending.
 fn end_with<O: Outlet>(session: &mut Session, outlet: &mut O, ended: Ended, line: &[u8]) -> Ended
     requires { length line.now ≤ TEXT_LIMIT }
     ensures { EndsWith line.now session.old.page (O.seen outlet.old) (O.seen outlet.new) ended

@@ -1,4 +1,4 @@
-//! The writing of a page.
+//! The writing of a reply buffer.
 ghost use Rattle.std.specs.Prelude.{◌≡◌, ◌≤◌, [], decimal, length};
 ghost use Rattle.session_text.specs.Replies.{and_number, line};
 ghost use Rattle.session_text.specs.Writes.{IsTextWritten, IsTextAdded};
@@ -8,7 +8,7 @@ use crate::page::Page;
 use dump_pump::Outlet;
 use dump_pump::transfer::put_all;
 
-/// The largest number of bytes of a page that has room for one more line.
+/// The largest number of bytes of a reply buffer that has room for one more line.
 pub const LINE_START: usize = 8000;
 
 /// The largest number of bytes of a text that is added as a line.
@@ -32,7 +32,7 @@ pub fn write_number<O: Outlet>(outlet: &mut O, number: u64) -> bool
     write_all(outlet, b"\n")
 }
 
-/// Puts out a page, which is empty afterwards. Returns false if a put failed.
+/// Puts out a reply buffer, which is empty afterwards. Returns false if a put failed.
 pub fn flush<O: Outlet>(page: &mut Page, outlet: &mut O) -> bool
     ensures added { IsTextAdded [] page.old (O.seen outlet.old) page.new (O.seen outlet.new)
         result }
@@ -43,7 +43,7 @@ pub fn flush<O: Outlet>(page: &mut Page, outlet: &mut O) -> bool
     written
 }
 
-/// Flushes a page unless it has room for one more line. Returns false if a put failed.
+/// Flushes a reply buffer unless it has room for one more line. Returns false if a put failed.
 pub fn make_room<O: Outlet>(page: &mut Page, outlet: &mut O) -> bool
     ensures added { IsTextAdded [] page.old (O.seen outlet.old) page.new (O.seen outlet.new)
         result }
@@ -55,7 +55,7 @@ pub fn make_room<O: Outlet>(page: &mut Page, outlet: &mut O) -> bool
     flush(page, outlet)
 }
 
-/// Adds a short text to a page, which is flushed first unless it has room for one more line. Returns false if a put failed.
+/// Adds a short text to a reply buffer, which is flushed first unless it has room for one more line. Returns false if a put failed.
 pub(crate) fn write_text<O: Outlet>(page: &mut Page, outlet: &mut O, text: &[u8]) -> bool
     requires { length text.now ≤ TEXT_LIMIT }
     ensures { IsTextAdded text.now page.old (O.seen outlet.old) page.new (O.seen outlet.new)
@@ -68,7 +68,7 @@ pub(crate) fn write_text<O: Outlet>(page: &mut Page, outlet: &mut O, text: &[u8]
     true
 }
 
-/// Flushes a page and puts out a long text.
+/// Flushes a reply buffer and puts out a long text.
 pub(crate) fn write_long<O: Outlet>(page: &mut Page, outlet: &mut O, text: &[u8]) -> bool
     ensures { IsTextAdded text.now page.old (O.seen outlet.old) page.new (O.seen outlet.new)
         result }
@@ -76,7 +76,7 @@ pub(crate) fn write_long<O: Outlet>(page: &mut Page, outlet: &mut O, text: &[u8]
     flush(page, outlet) && write_all(outlet, text)
 }
 
-/// Adds a space, a number and LF to a page, which is flushed first unless it has room for one more line.
+/// Adds a space, a number and LF to a reply buffer, which is flushed first unless it has room for one more line.
 pub(crate) fn write_number_line<O: Outlet>(page: &mut Page, outlet: &mut O, n: u64) -> bool
     ensures { IsTextAdded (line (and_number n)) page.old (O.seen outlet.old) page.new
         (O.seen outlet.new) result }

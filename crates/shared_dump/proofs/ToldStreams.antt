@@ -26,12 +26,12 @@ told_cancel_was_found : (pin time : ℕ) (start : List Call) (given : List Piece
 told_cancel_was_found pin time start given seen true e may h = refl
 told_cancel_was_found pin time start given seen false e may h = absurd (subst (MayEnd pin time start given seen) h may)
 
-tells : (pin time : ℕ) (start seen : List Call) (given : List Piece) (out : List ℕ) (found : Bool) (e : Option SourceEnd) (failures failures2 : ℕ) (r : Pumped) → MayEnd pin time start given seen e → FitsPump given out (if found then Some End.Cancelled else e) failures failures2 r
+stream_end_is_told : (pin time : ℕ) (start seen : List Call) (given : List Piece) (out : List ℕ) (found : Bool) (e : Option SourceEnd) (failures failures2 : ℕ) (r : Pumped) → MayEnd pin time start given seen e → FitsPump given out (if found then Some End.Cancelled else e) failures failures2 r
     → TellsStream pin time start seen given out found failures failures2 r
-tells pin time start seen given out found e failures failures2 (Done n) may h = (h.0, h.1, h.3)
-tells pin time start seen given out found e failures failures2 (OutletFailed n) may h = h
-tells pin time start seen given out found e failures failures2 (Lost cause n) may h = (h.0, subst (MayEnd pin time start given seen) (told_loss_is_source_loss found e cause h.1) may, h.2)
-tells pin time start seen given out found e failures failures2 (Cancelled n) may h = (h.0, told_cancel_was_found pin time start given seen found e may h.1, h.2)
+stream_end_is_told pin time start seen given out found e failures failures2 (Done n) may h = (h.0, h.1, h.3)
+stream_end_is_told pin time start seen given out found e failures failures2 (OutletFailed n) may h = h
+stream_end_is_told pin time start seen given out found e failures failures2 (Lost cause n) may h = (h.0, subst (MayEnd pin time start given seen) (told_loss_is_source_loss found e cause h.1) may, h.2)
+stream_end_is_told pin time start seen given out found e failures failures2 (Cancelled n) may h = (h.0, told_cancel_was_found pin time start given seen found e may h.1, h.2)
 
 -- ---- what the dumper got
 
@@ -73,5 +73,5 @@ fresh_source_puts_served_pin config pin time d a t was found w w2 r none p q o s
       grows = done.grows;
       begins = done.begins;
       counted = done.counted;
-      tells = tells pin time d.seen t.dumper.seen done.given done.out found t.ended w.failures w2.failures r may done.fits;
+      tells = stream_end_is_told pin time d.seen t.dumper.seen done.given done.out found t.ended w.failures w2.failures r may done.fits;
     }

@@ -1,5 +1,5 @@
-//! The first retained state with a given number of live objects of a class, or more: a walk over the records, the newest first, with
-//! a pin that shows the state after each step.
+//! The first retained state with a given number of live objects of a class, or more: a walk over the records, the newest first,
+//! with a pin that shows the state after each step.
 ghost use Rattle.std.specs.Prelude.{◌≡◌, ◌≤◌, ◌+◌, nat_le, length, if◌then◌else◌, false, IfOk, IfErr};
 ghost use Rattle.heap_class.specs.declared.Refusal.TheVariants.{NoMemory};
 ghost use Rattle.heap_questions.specs.declared.wanted.Wanted.TheVariants.{OfClass};

@@ -17,9 +17,9 @@ use heap_world::World;
 use hprof_text::View;
 use std::alloc::Global;
 
-/// Returns the place of the oldest state that has an object that is wanted, of the state of `ago` steps ago and those of the `count`
-/// steps before it, or None if none of them has one. They must be retained. Fails with NoMemory if an allocation fails. Reads each
-/// record since the oldest of these states once, and each object of that state at most once.
+/// Returns the place of the oldest state that has an object that is wanted, of the state of `ago` steps ago and those of the
+/// `count` steps before it, or None if none of them has one. They must be retained. Fails with NoMemory if an allocation fails.
+/// Reads each record since the oldest of these states once, and each object of that state at most once.
 pub fn first_wanted(
     alloc: Global,
     machine: &Machine,

@@ -1,5 +1,5 @@
-use Rattle.heap_trail.proofs.Together.{headline}
+use Rattle.heap_trail.proofs.Together.{headline_of_machines}
 use Rattle.heap_trail.proofs.headline.Goals as goal
 
 pub returns : goal.returns
-returns c = headline
+returns c = headline_of_machines

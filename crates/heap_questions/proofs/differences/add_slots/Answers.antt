@@ -5,7 +5,7 @@ use Rattle.heap_questions.specs.Differences.{changes_of_slots, differs_at, slot_
 use Rattle.heap_questions.specs.declared.differences.Difference.{Difference}
 use Rattle.heap_questions.specs.declared.differences.Difference.TheVariants.{Changed}
 use Rattle.heap_questions.specs.declared.past.seen.SeenSlot.{SeenSlot}
-use Rattle.heap_questions.proofs.Passing.{passing, passes, fails}
+use Rattle.heap_questions.proofs.Passing.{passing, passing_one_more, passing_no_more}
 use Rattle.heap_questions.proofs.differences.add_slots.Goals.{then-before-after+in_ok-push, else-before-after}
 use Rattle.heap_questions.proofs.differences.add_slots.Goals as goal
 
@@ -22,10 +22,10 @@ loop-slot-preserved c =
     elim c.if-before-after.branch [
       | then-before-after+in_ok-push w ↦
           let pushed = ap₂ (λ (a b : SeenSlot). rows ++ Changed c.args.id s a b ∷ []) w.slot_seen-seen.ensures w.slot_seen-now.ensures in
-          passes p f s c.args.rows.now.items rows c.if-before-after.rows.items (sym tested ∙ ap not (ne_eqb c.word_at-before.result c.word_at-after.result w.if-before-after.true)) c.loop-slot.invariant
+          passing_one_more p f s c.args.rows.now.items rows c.if-before-after.rows.items (sym tested ∙ ap not (ne_eqb c.word_at-before.result c.word_at-after.result w.if-before-after.true)) c.loop-slot.invariant
           (ap items w.rows-is ∙ w.in_ok-push.ensures.items ∙ pushed)
       | else-before-after w ↦
-          ap items w.rows-is ∙ fails p f s c.args.rows.now.items rows (sym tested ∙ ap not (eq-eqb c.word_at-before.result c.word_at-after.result w.if-before-after.false)) c.loop-slot.invariant
+          ap items w.rows-is ∙ passing_no_more p f s c.args.rows.now.items rows (sym tested ∙ ap not (eq-eqb c.word_at-before.result c.word_at-after.result w.if-before-after.false)) c.loop-slot.invariant
     ]
 
 pub returns-clause-added : goal.returns-clause-added

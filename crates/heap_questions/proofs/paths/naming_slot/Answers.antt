@@ -2,7 +2,7 @@ use Rattle.std.proofs.Common.{sym, ap, ◌∙◌, subst, length}
 use Rattle.std.specs.Prelude.{Some}
 use Rattle.hprof_text.specs.Image.{IsKnown}
 use Rattle.hprof_text.proofs.Loops.{item_of_list_within}
-use Rattle.hprof_text.proofs.ViewedObjects.{here, is_there}
+use Rattle.hprof_text.proofs.ViewedObjects.{object_viewed_at_place, is_there}
 use Rattle.heap_questions.proofs.NodePlaces.{node_place}
 use Rattle.heap_questions.proofs.WaysBack.{first_naming}
 use Rattle.heap_questions.proofs.paths.naming_slot.Goals as goal
@@ -25,7 +25,7 @@ first_slot_to-requires g c =
     let places = g.V.View.places v in
     let n = item_of_list_within c.args.nodes.now c.args.node c.requires.node in
     let led = node_place (g.V.View.image v) places c.args.nodes.now c.args.node n.0 c.requires.nodes n.1 ∙ ap Some (sym (c.place-at.ensures n.0 n.1)) in
-    let h = here (g.V.View.image v) places c.args.node c.place-at.result c.kind-kind.result c.words-words.result.now c.classes-classes.ensures.limits c.classes-classes.ensures.placed led (c.kind-kind.ensures c.args.node led) (c.words-words.ensures c.args.node led) in
+    let h = object_viewed_at_place (g.V.View.image v) places c.args.node c.place-at.result c.kind-kind.result c.words-words.result.now c.classes-classes.ensures.limits c.classes-classes.ensures.placed led (c.kind-kind.ensures c.args.node led) (c.words-words.ensures c.args.node led) in
     subst (λ cs. IsKnown cs c.kind-kind.result (length c.words-words.result.now)) (sym c.classes-classes.ensures.value) h.known
 
 pub returns : goal.returns

@@ -9,7 +9,7 @@ use Rattle.heap_questions.proofs.Looking.{found_of}
 use Rattle.heap_questions.proofs.NodePlaces.{node_within}
 use Rattle.heap_questions.proofs.OtherRegisters.{own_hops, same_first_naming}
 use Rattle.heap_questions.proofs.TracedPaths.{goes_on_ends}
-use Rattle.heap_questions.proofs.WaysBack.{GoesOnFrom, by_register, goes_on_back, goes_on_first, id_told, lower, parent_found}
+use Rattle.heap_questions.proofs.WaysBack.{GoesOnFrom, by_register, goes_on_back, goes_on_first, id_told, entry_by_slot_is_lower, parent_found}
 use Rattle.heap_questions.proofs.paths.way_back.Goals as goal
 
 pub loop-here-init : goal.loop-here-init
@@ -60,7 +60,7 @@ loop-here-smaller g c =
     let v = c.loop-here.invariant registers q i in
     let p = parent_found image c.args.nodes.now c.args.queue.now q c.args.index c.loop-here.here c.loop-here.hops.items i v c.loop-here-test.true in
     let same = got_same c.args.queue.now (c.loop-here.here.from - 268435456) (entry_of p.by.other) c.entry_at-parent.result p.there c.entry_at-parent.ensures in
-    lower image c.args.nodes.now c.args.queue.now q v.on.0 v.here c.loop-here.here c.entry_at-parent.result i p.by same
+    entry_by_slot_is_lower image c.args.nodes.now c.args.queue.now q v.on.0 v.here c.loop-here.here c.entry_at-parent.result i p.by same
 
 pub loop-here-preserved : goal.loop-here-preserved
 loop-here-preserved g c registers q i =

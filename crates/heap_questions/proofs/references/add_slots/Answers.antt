@@ -4,7 +4,7 @@ use Rattle.heap_questions.specs.Referrers.{naming_slots, names_at}
 use Rattle.std.proofs.lemmas.List.{get_or_default}
 use Rattle.heap_questions.specs.declared.references.Referrer.{Referrer}
 use Rattle.heap_questions.specs.declared.references.Referrer.TheVariants.{Slot}
-use Rattle.heap_questions.proofs.Passing.{passing, passes, fails, named_so, other_word, no_reference}
+use Rattle.heap_questions.proofs.Passing.{passing, passing_one_more, passing_no_more, named_so, other_word, no_reference}
 use Rattle.heap_questions.proofs.references.add_slots.Goals.{then-words-slot+then-is_reference_slot+in_ok-push, else-words-slot, else-words-slot-via-then-words-slot+else-is_reference_slot, else-words-slot-via-else-words-slot}
 use Rattle.heap_questions.proofs.references.add_slots.Goals as goal
 
@@ -22,13 +22,13 @@ loop-slot-preserved c =
     let items = λ (v : Vec Referrer Global). v.items in
     elim c.if-words-slot.branch [
       | then-words-slot+then-is_reference_slot+in_ok-push w ↦
-          passes (names_at classes id o) (Slot c.args.object) s old c.loop-slot.all.items c.if-words-slot.all.items
+          passing_one_more (names_at classes id o) (Slot c.args.object) s old c.loop-slot.all.items c.if-words-slot.all.items
           (named_so classes id o s x h g (sym w.is_reference_slot.ensures ∙ w.if-is_reference_slot.true) w.if-words-slot.true) c.loop-slot.invariant (ap items w.all-is ∙ w.in_ok-push.ensures.items)
       | else-words-slot w ↦ elim w.else-words-slot.branch [
         | else-words-slot-via-then-words-slot+else-is_reference_slot v ↦
-            ap items w.all-is ∙ fails (names_at classes id o) (Slot c.args.object) s old c.loop-slot.all.items (no_reference classes id o s (sym v.is_reference_slot.ensures ∙ v.if-is_reference_slot.false)) c.loop-slot.invariant
+            ap items w.all-is ∙ passing_no_more (names_at classes id o) (Slot c.args.object) s old c.loop-slot.all.items (no_reference classes id o s (sym v.is_reference_slot.ensures ∙ v.if-is_reference_slot.false)) c.loop-slot.invariant
         | else-words-slot-via-else-words-slot v ↦
-            ap items w.all-is ∙ fails (names_at classes id o) (Slot c.args.object) s old c.loop-slot.all.items (other_word classes id o s x h g v.if-words-slot.false) c.loop-slot.invariant
+            ap items w.all-is ∙ passing_no_more (names_at classes id o) (Slot c.args.object) s old c.loop-slot.all.items (other_word classes id o s x h g v.if-words-slot.false) c.loop-slot.invariant
       ]
     ]
 

@@ -1,7 +1,7 @@
 use Rattle.std.proofs.Common.{◌≤◌, ◌++◌, length, sym, ap, ap₂, ◌∙◌, arith}
 use Rattle.std.specs.Prelude.{flat_map}
 use Rattle.std.proofs.lemmas.List.{take_all}
-use Rattle.hprof_text.proofs.ViewedObjects.{here, is_there, number_after_place_within, no_next_place_is_past_all}
+use Rattle.hprof_text.proofs.ViewedObjects.{object_viewed_at_place, is_there, number_after_place_within, no_next_place_is_past_all}
 use Rattle.heap_questions.specs.Referrers.{naming_slots, naming_registers}
 use Rattle.heap_questions.proofs.Passing.{same_object, slots_more}
 use Rattle.heap_questions.proofs.references.referrers.Goals as goal
@@ -22,7 +22,7 @@ loop-here-preserved g c =
     let i = c.loop-here.passed in
     let at = c.in-Some.at in
     let e = sym c.loop-here.invariant.here ∙ c.in-Some.is in
-    let h = here image (g.V.View.places v) i at c.kind.result c.words.result.now c.classes-classes.ensures.limits c.classes-classes.ensures.placed e (c.kind.ensures i e) (c.words.ensures i e) in
+    let h = object_viewed_at_place image (g.V.View.places v) i at c.kind.result c.words.result.now c.classes-classes.ensures.limits c.classes-classes.ensures.placed e (c.kind.ensures i e) (c.words.ensures i e) in
     let o = h.object in
     let same = same_object image i o c.id.result c.kind.result c.words.result.now h.there (c.id.ensures i e) h.same_kind h.same_words in
     record {

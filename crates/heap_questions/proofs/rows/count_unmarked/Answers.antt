@@ -4,7 +4,7 @@ use Rattle.hprof_text.specs.Image.{IsKnown}
 use Rattle.hprof_text.proofs.ViewedObjects.{all_objects_were_visited, fewer_places_left_after_next, is_there, number_after_place_within}
 use Rattle.heap_questions.specs.Histogram.{AreRows, class_rows, counted_unless, no_objects, object_bytes, row_number, without_marked, value_size}
 use Rattle.heap_questions.proofs.Counting.{rows_begin, rows_more, rows_end, room_among}
-use Rattle.heap_questions.proofs.NamedObjects.{viewed}
+use Rattle.heap_questions.proofs.NamedObjects.{view_tells_named_object}
 use Rattle.heap_questions.proofs.rows.count_unmarked.Goals as goal
 
 pub loop-here-init : goal.loop-here-init
@@ -26,17 +26,17 @@ words-requires g c = is_there (g.V.View.places c.args.view.now) c.loop-here.pass
 
 pub value_size-bytes-requires-clause-known : goal.value_size-bytes-requires-clause-known
 value_size-bytes-requires-clause-known g c =
-    let h = viewed (g.V.View.image c.args.view.now) (g.V.View.places c.args.view.now) c.loop-here.passed _ c.in-Some.at c.kind-kind.result c.words.result.now c.loop-here.invariant.here c.in-Some.is c.classes-classes.ensures.limits c.classes-classes.ensures.placed c.kind-kind.ensures c.words.ensures in
+    let h = view_tells_named_object (g.V.View.image c.args.view.now) (g.V.View.places c.args.view.now) c.loop-here.passed _ c.in-Some.at c.kind-kind.result c.words.result.now c.loop-here.invariant.here c.in-Some.is c.classes-classes.ensures.limits c.classes-classes.ensures.placed c.kind-kind.ensures c.words.ensures in
     subst (λ cs. IsKnown cs c.kind-kind.result (length c.words.result.now)) (sym c.classes-classes.ensures.value) h.known
 
 pub value_size-bytes-requires-clause-small : goal.value_size-bytes-requires-clause-small
 value_size-bytes-requires-clause-small g c =
-    let h = viewed (g.V.View.image c.args.view.now) (g.V.View.places c.args.view.now) c.loop-here.passed _ c.in-Some.at c.kind-kind.result c.words.result.now c.loop-here.invariant.here c.in-Some.is c.classes-classes.ensures.limits c.classes-classes.ensures.placed c.kind-kind.ensures c.words.ensures in
+    let h = view_tells_named_object (g.V.View.image c.args.view.now) (g.V.View.places c.args.view.now) c.loop-here.passed _ c.in-Some.at c.kind-kind.result c.words.result.now c.loop-here.invariant.here c.in-Some.is c.classes-classes.ensures.limits c.classes-classes.ensures.placed c.kind-kind.ensures c.words.ensures in
     h.small
 
 pub row_number-index-requires : goal.row_number-index-requires
 row_number-index-requires g c =
-    let h = viewed (g.V.View.image c.args.view.now) (g.V.View.places c.args.view.now) c.loop-here.passed _ c.in-Some.at c.kind-kind.result c.words.result.now c.loop-here.invariant.here c.in-Some.is c.classes-classes.ensures.limits c.classes-classes.ensures.placed c.kind-kind.ensures c.words.ensures in
+    let h = view_tells_named_object (g.V.View.image c.args.view.now) (g.V.View.places c.args.view.now) c.loop-here.passed _ c.in-Some.at c.kind-kind.result c.words.result.now c.loop-here.invariant.here c.in-Some.is c.classes-classes.ensures.limits c.classes-classes.ensures.placed c.kind-kind.ensures c.words.ensures in
     subst (λ cs. IsKnown cs c.kind-kind.result (length c.words.result.now)) (sym c.classes-classes.ensures.value) h.known
 
 pub loop-here-smaller : goal.loop-here-smaller
@@ -51,7 +51,7 @@ loop-here-preserved g c =
     let at = c.in-Some.at in
     let rows = c.loop-here.rows.items in
     let e = sym c.loop-here.invariant.here ∙ c.in-Some.is in
-    let h = viewed image (g.V.View.places v) i _ at c.kind-kind.result c.words.result.now c.loop-here.invariant.here c.in-Some.is c.classes-classes.ensures.limits c.classes-classes.ensures.placed c.kind-kind.ensures c.words.ensures in
+    let h = view_tells_named_object image (g.V.View.places v) i _ at c.kind-kind.result c.words.result.now c.loop-here.invariant.here c.in-Some.is c.classes-classes.ensures.limits c.classes-classes.ensures.placed c.kind-kind.ensures c.words.ensures in
     let o = h.object in
     let k : c.row_number-index.result ≡ row_number o.kind = c.row_number-index.ensures.value ∙ ap row_number h.same_kind in
     let n : c.value_size-bytes.result ≡ object_bytes ids image.classes o =

@@ -8,7 +8,7 @@ use Rattle.heap_questions.specs.Graph.{slot_refers}
 use Rattle.heap_questions.specs.Search.{Slot, entry_of, with_registers}
 use Rattle.heap_questions.specs.declared.search.Entry.{Entry}
 use Rattle.heap_questions.specs.declared.search.Reach.{Reach}
-use Rattle.heap_questions.proofs.Looking.{entered, entry_here, entry_read, entry_stands, entry_there, found_of, looking_begins, looked_at, looked_past, looked_through, looks_as, named_is, slot_is, slot_is_none}
+use Rattle.heap_questions.proofs.Looking.{added_entry_keeps_offer, entry_here, entry_read, entry_stands, entry_there, found_of, looking_begins, looked_at, looked_past, looked_through, looks_as, named_is, slot_is, slot_is_none}
 use Rattle.heap_questions.proofs.NodePlaces.{node_within}
 use Rattle.heap_questions.proofs.OtherRegisters.{same_nodes, same_object_with}
 use Rattle.heap_questions.proofs.SearchOrder.{next_head, ordered_next}
@@ -88,7 +88,7 @@ loop-slot-preserved g c registers begun =
     let re : c.is_reference_slot.result ≡ slot_refers image.classes r.object.kind s = c.is_reference_slot.ensures ∙ ap₂ (λ cs k. slot_refers cs k s) c.classes-classes.ensures.value r.same_kind in
     elim c.if-is_reference_slot.branch [
       | then-is_reference_slot+in_ok-offer w ↦
-          let o = entered nodes x (f.depth + 1) (Slot s head) c.loop-slot.reach.seen.items c.loop-slot.reach.queue.items i.queue w.offer.new.reach.seen.items w.offer.new.reach.queue.items i.kept w.in_ok-offer.ensures.done in
+          let o = added_entry_keeps_offer nodes x (f.depth + 1) (Slot s head) c.loop-slot.reach.seen.items c.loop-slot.reach.queue.items i.queue w.offer.new.reach.seen.items w.offer.new.reach.queue.items i.kept w.in_ok-offer.ensures.done in
           looks_as other nodes head c.args.reach.now.queue.items w.offer.new.reach.seen.items c.if-is_reference_slot.reach.seen.items w.offer.new.reach.queue.items c.if-is_reference_slot.reach.queue.items (s + 1)
           (ap (λ (r : Reach). r.seen.items) w.reach-is) (ap (λ (r : Reach). r.queue.items) w.reach-is)
           (record {

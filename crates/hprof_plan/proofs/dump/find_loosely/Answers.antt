@@ -1,10 +1,10 @@
 use Rattle.std.proofs.Common.{arith}
 use Rattle.hprof_session.specs.Walks.{left, item_told}
-use Rattle.hprof_plan.proofs.FoundTables.{starts, goes_on, comes_to_end, runs_out, stops}
+use Rattle.hprof_plan.proofs.FoundTables.{nothing_found_at_start, goes_on, comes_to_end, runs_out, no_next_item_is_fault}
 use Rattle.hprof_plan.proofs.dump.find_loosely.Goals as goal
 
 pub loop-init : goal.loop-init
-loop-init c = starts (left c.args.walk) _ c.none_found-found.ensures
+loop-init c = nothing_found_at_start (left c.args.walk) _ c.none_found-found.ensures
 
 pub loop-preserved : goal.loop-preserved
 loop-preserved c =
@@ -19,7 +19,7 @@ returns-in-Ok-None c =
 
 pub returns-in-Err : goal.returns-in-Err
 returns-in-Err c =
-    stops (left c.args.walk) c.loop.counter (left c.loop.at) c.loop.found c.in-Err.fault _ c.loop.invariant c.size_of.ensures
+    no_next_item_is_fault (left c.args.walk) c.loop.counter (left c.loop.at) c.loop.found c.in-Err.fault _ c.loop.invariant c.size_of.ensures
     (λ e. let h = c.in-Err.ensures.end e in cc h)
     (λ i x next. let h = c.in-Err.ensures.only i x next in cc h)
 

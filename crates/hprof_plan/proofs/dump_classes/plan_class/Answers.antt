@@ -4,12 +4,12 @@ use Rattle.std.specs.Map.{keys_of}
 use Rattle.std.proofs.lemmas.Map.Entries.{length-keys_of}
 use Rattle.std.proofs.lemmas.Map.Made.{is_some-lookup}
 use Rattle.hprof_plan.specs.Tables.{classes_told}
-use Rattle.hprof_plan.proofs.DefinedClasses.{absent}
+use Rattle.hprof_plan.proofs.DefinedClasses.{not_some_is_none}
 use Rattle.hprof_plan.proofs.Numbering.{class_found, class_lacking, next_number, no_number_if_full, no_number_if_lacking, no_number_if_numbered}
 use Rattle.hprof_plan.proofs.dump_classes.plan_class.Goals as goal
 
 pub plan_new-requires-clause-new : goal.plan_new-requires-clause-new
-plan_new-requires-clause-new c = absent _ c.if-contains_key.ensures
+plan_new-requires-clause-new c = not_some_is_none _ c.if-contains_key.ensures
 
 pub plan_new-requires-clause-class : goal.plan_new-requires-clause-class
 plan_new-requires-clause-class c = class_found c.args.found.now.classes.entries c.args.id c.in-Some.dump.now c.in-Some.ensures.value

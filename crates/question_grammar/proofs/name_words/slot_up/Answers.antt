@@ -1,7 +1,7 @@
 use Rattle.std.proofs.Common.{◌≡◌, ◌∙◌, ◌+◌, ◌-◌, ◌<◌, ℕ, Option, ap, arith, length, subst, sym}
 use Rattle.std.specs.Prelude.{IfSome}
 use Rattle.question_grammar.specs.NameWords.{slot_named}
-use Rattle.question_words.proofs.FieldsAbove.{lower}
+use Rattle.question_words.proofs.FieldsAbove.{bound_may_grow}
 use Rattle.question_grammar.proofs.NameWords.{slot_above, slot_here, up_end, up_none}
 use Rattle.question_grammar.proofs.name_words.slot_up.Goals as goal
 
@@ -31,7 +31,7 @@ loop-depth-preserved c =
     let next : n ≡ m + 1 = omega (arith, c.loop-depth-test.true, c.len-depth-end.ensures.value) in
     let there : a < length cs = subst (λ (o : Option ℕ). IfSome o (λ k. k < length cs)) c.in-Some.is c.loop-depth.invariant.there in
     record {
-      there = lower c.sup-here.result a (length cs) c.sup-here.ensures.before there;
+      there = bound_may_grow c.sup-here.result a (length cs) c.sup-here.ensures.before there;
       few = omega (arith, c.loop-depth.invariant.few, c.field_count-first.ensures.limit);
       found = slot_above cs c.args.name.now c.loop-depth.first (c.loop-depth.first + c.field_count-first.result) n m a c.loop-depth.here c.field_named.result c.sup-here.result next c.in-Some.is c.field_named.ensures c.in_default-field_named.is (ap (λ (i : ℕ). c.loop-depth.first + i) c.field_count-first.ensures.value) c.sup-here.ensures.value
           ∙ c.loop-depth.invariant.found;

@@ -2,7 +2,7 @@ use Rattle.std.proofs.Common.{List, subst}
 use Rattle.std.proofs.lemmas.Result.{IfOk-weaker}
 use Rattle.heap_class.specs.Classes.{Class}
 use Rattle.question_rows.specs.Histograms.{IsHistogramText, IsRowsText, sum_of}
-use Rattle.question_rows.proofs.Totals.{all_rows_small, as_count, countable, viewed_rows}
+use Rattle.question_rows.proofs.Totals.{all_rows_small, as_count, image_is_countable, viewed_rows}
 use Rattle.question_rows.proofs.histogram.histogram_text.Goals as goal
 
 pub rows_text-requires-clause-classes : goal.rows_text-requires-clause-classes
@@ -22,7 +22,7 @@ returns g c =
     let rows = c.in_ok-histogram.histogram in (
       IfOk-weaker c.rows_text.result (λ text. IsRowsText c.classes-classes.result rows (sum_of rows) text.items)
           (λ text. IsHistogramText (g.V.View.ids v) image text.items)
-          (λ text h. as_count (g.V.View.ids v) image.classes image.objects rows text.items c.in_ok-histogram.ensures.rows (countable image c.classes-classes.ensures.limits)
+          (λ text h. as_count (g.V.View.ids v) image.classes image.objects rows text.items c.in_ok-histogram.ensures.rows (image_is_countable image c.classes-classes.ensures.limits)
           (subst (λ (cs : List Class). IsRowsText cs rows (sum_of rows) text.items) c.classes-classes.ensures.value h)) c.rows_text.ensures.0,
       c.rows_text.ensures.1,
     )

@@ -3,7 +3,7 @@ use Rattle.std.specs.Prelude.{filter}
 use Rattle.std.proofs.lemmas.Result.{IfOk-weaker}
 use Rattle.heap_class.specs.Classes.{Class}
 use Rattle.question_rows.specs.Histograms.{IsRetainedCount, IsRowsText, sum_of}
-use Rattle.question_rows.proofs.Totals.{as_count, countable, some_countable, some_rows_small, viewed_rows}
+use Rattle.question_rows.proofs.Totals.{as_count, image_is_countable, some_countable, some_rows_small, viewed_rows}
 use Rattle.question_rows.proofs.histogram.retained_text.Goals as goal
 
 pub rows_text-requires-clause-classes : goal.rows_text-requires-clause-classes
@@ -33,7 +33,7 @@ returns g c =
             h.0,
             h.1,
             as_count (g.V.View.ids v) image.classes (filter h.0 image.objects) rows text.items h.2
-                (some_countable image.classes h.0 image.objects (countable image c.classes-classes.ensures.limits))
+                (some_countable image.classes h.0 image.objects (image_is_countable image c.classes-classes.ensures.limits))
                 (subst (λ (cs : List Class). IsRowsText cs rows (sum_of rows) text.items) c.classes-classes.ensures.value told),
           )) c.rows_text.ensures.0,
       c.rows_text.ensures.1,

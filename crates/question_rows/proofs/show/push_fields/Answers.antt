@@ -4,7 +4,7 @@ use Rattle.std.proofs.lemmas.List.{append-nil, drop_all}
 use Rattle.heap_class.specs.Classes.{fields_of, sup_of}
 use Rattle.question_rows.specs.Objects.{field_rows, rows_joined}
 use Rattle.question_words.specs.Names.{fields_up}
-use Rattle.question_words.proofs.FieldsAbove.{fields_none, lower}
+use Rattle.question_words.proofs.FieldsAbove.{fields_none, bound_may_grow}
 use Rattle.question_rows.proofs.FieldRows.{part_of_class}
 use Rattle.question_rows.proofs.show.push_fields.Goals as goal
 
@@ -38,7 +38,7 @@ loop-depth-preserved c =
     let rest = rows_joined (drop j (field_rows (f + own) (fields_up cs m (sup_of cs a)) (drop (f + own) words))) in
     let next : n ≡ m + 1 = omega (arith, c.loop-depth-test.true, c.len-depth-end.ensures.value) in
     record {
-      there = lower c.sup-here.result a (length cs) c.sup-here.ensures.before there;
+      there = bound_may_grow c.sup-here.result a (length cs) c.sup-here.ensures.before there;
       within = omega (arith, c.own_count.ensures, c.loop-depth.invariant.within);
       lines = ap (λ (o : Option ℕ). c.push_own.new.text.items ++ rows_joined (drop j (field_rows (f + own) (fields_up cs m o) (drop (f + own) words)))) c.sup-here.ensures.value
           ∙ ap (λ (t : List ℕ). t ++ rest) c.in_ok-push_own.ensures

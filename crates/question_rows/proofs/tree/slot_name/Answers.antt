@@ -1,7 +1,7 @@
 use Rattle.std.proofs.Common.{◌≡◌, ◌∙◌, ◌+◌, ◌-◌, ◌<◌, ℕ, Option, arith, length, refl, subst, sym}
 use Rattle.std.specs.Prelude.{IfSome}
 use Rattle.question_rows.specs.Trees.{slot_name}
-use Rattle.question_words.proofs.FieldsAbove.{lower}
+use Rattle.question_words.proofs.FieldsAbove.{bound_may_grow}
 use Rattle.question_rows.proofs.SlotNames.{name_above, no_class_left, no_name, own_name}
 use Rattle.question_rows.proofs.tree.slot_name.Goals as goal
 
@@ -30,7 +30,7 @@ loop-depth-preserved c =
     let there : a < length cs = subst (λ (o : Option ℕ). IfSome o (λ k. k < length cs)) c.in-Some.is c.loop-depth.invariant.there in
     let own = c.field_count-own.result in
     record {
-      there = lower c.sup-here.result a (length cs) c.sup-here.ensures.before there;
+      there = bound_may_grow c.sup-here.result a (length cs) c.sup-here.ensures.before there;
       name = name_above cs n m a c.loop-depth.left (c.loop-depth.left - own) own c.loop-depth.here c.sup-here.result next c.in-Some.is c.field_count-own.ensures.value (omega (arith, c.if-left-own.false)) refl c.sup-here.ensures.value ∙ c.loop-depth.invariant.name;
     }
 

@@ -10,8 +10,8 @@ use Rattle.session_text.proofs.answer.answer_lines.Goals.{After-answer_first}
 use Rattle.session_text.proofs.answer.answer_lines.Goals as goal
 
 -- what came of the lines so far and of the first of the rest
-came : (g : Over) (c : After-answer_first g) (flow : Option Flow) → c.answer_first.result ≡ flow → IsSoFarThen c.args.context.limits (AnswersCommand g.C.Commands.acts g.C.Commands.unknown c.args.context.time) (Begins g.C.Commands.acts g.C.Commands.unknown c.args.context.time) c.args.session.now.buffer c.args.commands.now (g.O.Outlet.seen c.args.writer.now) c.answer_first.new.session.buffer c.answer_first.new.commands c.answer_first.new.session.page (g.O.Outlet.seen c.answer_first.new.writer) flow
-came g c flow is =
+first_line_came : (g : Over) (c : After-answer_first g) (flow : Option Flow) → c.answer_first.result ≡ flow → IsSoFarThen c.args.context.limits (AnswersCommand g.C.Commands.acts g.C.Commands.unknown c.args.context.time) (Begins g.C.Commands.acts g.C.Commands.unknown c.args.context.time) c.args.session.now.buffer c.args.commands.now (g.O.Outlet.seen c.args.writer.now) c.answer_first.new.session.buffer c.answer_first.new.commands c.answer_first.new.session.page (g.O.Outlet.seen c.answer_first.new.writer) flow
+first_line_came g c flow is =
     let says = AnswersCommand g.C.Commands.acts g.C.Commands.unknown c.args.context.time in
     let begins = Begins g.C.Commands.acts g.C.Commands.unknown c.args.context.time in
     let m = c.answer_mutators in
@@ -38,19 +38,19 @@ returns-then-not-answer_mutators g c =
     so_far_cut c.args.context.limits says begins c.args.session.now.buffer c.args.commands.now w0 c.loop-context.session.buffer c.loop-context.commands c.loop-context.session.page w1 m.new.session.buffer m.new.commands m.new.session.page w2 c.loop-context.invariant (m.ensures.cut c.if-not-answer_mutators.true c.args.context.limits c.args.context.time)
 
 pub loop-context-preserved : goal.loop-context-preserved
-loop-context-preserved g c = came g (goal.at.loop-context-preserved g c).After-answer_first (Some Next) (c.in-Some-Next.is ∙ ap Some c.in-Some-Next.field-0-is)
+loop-context-preserved g c = first_line_came g (goal.at.loop-context-preserved g c).After-answer_first (Some Next) (c.in-Some-Next.is ∙ ap Some c.in-Some-Next.field-0-is)
 
 pub returns-in-None : goal.returns-in-None
-returns-in-None g c = came g (goal.at.returns-in-None g c).After-answer_first None c.in-None.is
+returns-in-None g c = first_line_came g (goal.at.returns-in-None g c).After-answer_first None c.in-None.is
 
 pub returns-in-Some-Quit : goal.returns-in-Some-Quit
-returns-in-Some-Quit g c = came g (goal.at.returns-in-Some-Quit g c).After-answer_first (Some Quit) (c.in-Some-Quit.is ∙ ap Some c.in-Some-Quit.field-0-is)
+returns-in-Some-Quit g c = first_line_came g (goal.at.returns-in-Some-Quit g c).After-answer_first (Some Quit) (c.in-Some-Quit.is ∙ ap Some c.in-Some-Quit.field-0-is)
 
 pub returns-in-Some-Long : goal.returns-in-Some-Long
-returns-in-Some-Long g c = came g (goal.at.returns-in-Some-Long g c).After-answer_first (Some Long) (c.in-Some-Long.is ∙ ap Some c.in-Some-Long.field-0-is)
+returns-in-Some-Long g c = first_line_came g (goal.at.returns-in-Some-Long g c).After-answer_first (Some Long) (c.in-Some-Long.is ∙ ap Some c.in-Some-Long.field-0-is)
 
 pub returns-in-Some-Fault : goal.returns-in-Some-Fault
-returns-in-Some-Fault g c = came g (goal.at.returns-in-Some-Fault g c).After-answer_first (Some Fault) (c.in-Some-Fault.is ∙ ap Some c.in-Some-Fault.field-0-is)
+returns-in-Some-Fault g c = first_line_came g (goal.at.returns-in-Some-Fault g c).After-answer_first (Some Fault) (c.in-Some-Fault.is ∙ ap Some c.in-Some-Fault.field-0-is)
 
 pub loop-context-smaller : goal.loop-context-smaller
 loop-context-smaller g c =

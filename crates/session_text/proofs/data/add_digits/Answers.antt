@@ -4,14 +4,14 @@ use Rattle.session_text.specs.declared.page.TheConstants.{PAGE_LIMIT}
 use Rattle.session_text.proofs.Sizes.{hex-append, length-hex}
 use Rattle.session_text.proofs.data.add_digits.Goals as goal
 
--- the page has room for the other digits
-room : (page rest first bytes : List ℕ) → page ++ encode_lower rest ≡ first ++ encode_lower bytes → length first + 2 * length bytes ≤ PAGE_LIMIT → length page + 2 * length rest ≤ PAGE_LIMIT
-room page rest first bytes e h =
+-- the reply buffer has room for the other digits
+digits_have_room : (page rest first bytes : List ℕ) → page ++ encode_lower rest ≡ first ++ encode_lower bytes → length first + 2 * length bytes ≤ PAGE_LIMIT → length page + 2 * length rest ≤ PAGE_LIMIT
+digits_have_room page rest first bytes e h =
     omega (arith, h, ap (λ l. length l) e, length-append {A = ℕ}, length-hex rest, length-hex bytes)
 
 pub add_hex-requires : goal.add_hex-requires
 add_hex-requires c =
-    let left = room c.loop-rest.page c.loop-rest.rest.now c.args.page.now c.args.bytes.now c.loop-rest.invariant c.requires in
+    let left = digits_have_room c.loop-rest.page c.loop-rest.rest.now c.args.page.now c.args.bytes.now c.loop-rest.invariant c.requires in
     let s = c.split_at.ensures in
     omega (arith, left, s.front_len, s.back_len)
 
@@ -27,4 +27,4 @@ loop-rest-preserved c =
 
 pub add_hex-requires-2 : goal.add_hex-requires-2
 add_hex-requires-2 c =
-    room c.loop-rest.page c.loop-rest.rest.now c.args.page.now c.args.bytes.now c.loop-rest.invariant c.requires
+    digits_have_room c.loop-rest.page c.loop-rest.rest.now c.args.page.now c.args.bytes.now c.loop-rest.invariant c.requires

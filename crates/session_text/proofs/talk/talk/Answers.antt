@@ -18,9 +18,9 @@ use Rattle.session_text.proofs.talk.talk.Goals.{After-answer_lines, After-read}
 use Rattle.session_text.proofs.talk.talk.Goals as goal
 
 -- the line of an ending, behind the answers of the buffer's lines
-closed : (g : Over) (c : After-answer_lines g) (text : List ℕ) (ended : Ended) (line : List ℕ) (w2 : Outgoing) (result : Ended) → IsTalk c.args.context.limits (AnswersCommand g.C.Commands.acts g.C.Commands.unknown c.args.context.time) c.loop-session.session.buffer c.loop-session.commands c.answer_lines.new.session.buffer text c.answer_lines.new.commands → IsTextAdded text [] (g.O.Outlet.seen c.loop-session.writer) c.answer_lines.new.session.page (g.O.Outlet.seen c.answer_lines.new.writer) true
+ending_line_put_out : (g : Over) (c : After-answer_lines g) (text : List ℕ) (ended : Ended) (line : List ℕ) (w2 : Outgoing) (result : Ended) → IsTalk c.args.context.limits (AnswersCommand g.C.Commands.acts g.C.Commands.unknown c.args.context.time) c.loop-session.session.buffer c.loop-session.commands c.answer_lines.new.session.buffer text c.answer_lines.new.commands → IsTextAdded text [] (g.O.Outlet.seen c.loop-session.writer) c.answer_lines.new.session.page (g.O.Outlet.seen c.answer_lines.new.writer) true
     → EndsCleanly c.args.context.limits c.answer_lines.new.session.buffer (g.I.Inlet.seen c.args.reader.now) (g.I.Inlet.seen c.loop-session.reader) ended line → EndsWith line c.answer_lines.new.session.page (g.O.Outlet.seen c.answer_lines.new.writer) w2 ended result → Serves c.args.context.limits (AnswersCommand g.C.Commands.acts g.C.Commands.unknown c.args.context.time) (Begins g.C.Commands.acts g.C.Commands.unknown c.args.context.time) (g.I.Inlet.seen c.args.reader.now) (g.I.Inlet.seen c.loop-session.reader) c.args.commands.now (g.O.Outlet.seen c.args.writer.now) c.answer_lines.new.commands w2 result
-closed g c text ended line w2 result talk added closes out =
+ending_line_put_out g c text ended line w2 result talk added closes out =
     let says = AnswersCommand g.C.Commands.acts g.C.Commands.unknown c.args.context.time in
     let begins = Begins g.C.Commands.acts g.C.Commands.unknown c.args.context.time in
     let i = c.loop-session.invariant in
@@ -33,8 +33,8 @@ closed g c text ended line w2 result talk added closes out =
     (λ h. session_ends_in_failed_answers c.args.context.limits says begins _ _ _ _ _ _ _ _ last w2 i.1 i.2 (left, text, last, talk, inr (inl (ended, line, closes, refl, h)))))
 
 -- the buffer's lines, whose answers were put out
-opened : (g : Over) (c : After-read g) → IsOpen c.args.context.limits (AnswersCommand g.C.Commands.acts g.C.Commands.unknown c.args.context.time) (g.I.Inlet.seen c.args.reader.now) c.args.commands.now (g.O.Outlet.seen c.args.writer.now) (g.I.Inlet.seen c.loop-session.reader) c.answer_lines.new.session.buffer c.answer_lines.new.commands (g.O.Outlet.seen c.flush.new.outlet) c.loop-session.reads
-opened g c =
+buffer_lines_put_out : (g : Over) (c : After-read g) → IsOpen c.args.context.limits (AnswersCommand g.C.Commands.acts g.C.Commands.unknown c.args.context.time) (g.I.Inlet.seen c.args.reader.now) c.args.commands.now (g.O.Outlet.seen c.args.writer.now) (g.I.Inlet.seen c.loop-session.reader) c.answer_lines.new.session.buffer c.answer_lines.new.commands (g.O.Outlet.seen c.flush.new.outlet) c.loop-session.reads
+buffer_lines_put_out g c =
     let e = c.in-Next.ensures in
     let f = c.if-not-flush.ensures in
     let w1 = g.O.Outlet.seen c.flush.new.outlet in
@@ -42,12 +42,12 @@ opened g c =
     open_answered c.args.context.limits (AnswersCommand g.C.Commands.acts g.C.Commands.unknown c.args.context.time) _ _ _ _ _ _ _ _ c.answer_lines.new.session.buffer e.0 c.answer_lines.new.commands w1 c.loop-session.invariant.1 e.1 out
 
 -- the line of an ending, behind a read that gave nothing
-unread : (g : Over) (c : After-read g) (ended : Ended) (line : List ℕ) (w2 : Outgoing) (result : Ended) → (g.I.Inlet.seen c.read.new.inlet).taken ≡ (g.I.Inlet.seen c.loop-session.reader).taken → (g.I.Inlet.seen c.read.new.inlet).reads ≡ (g.I.Inlet.seen c.loop-session.reader).reads ++ 0 ∷ [] → Keeps (whole (g.I.Inlet.seen c.loop-session.reader)) (whole (g.I.Inlet.seen c.read.new.inlet))
+ending_behind_empty_read : (g : Over) (c : After-read g) (ended : Ended) (line : List ℕ) (w2 : Outgoing) (result : Ended) → (g.I.Inlet.seen c.read.new.inlet).taken ≡ (g.I.Inlet.seen c.loop-session.reader).taken → (g.I.Inlet.seen c.read.new.inlet).reads ≡ (g.I.Inlet.seen c.loop-session.reader).reads ++ 0 ∷ [] → Keeps (whole (g.I.Inlet.seen c.loop-session.reader)) (whole (g.I.Inlet.seen c.read.new.inlet))
     → EndsCleanly c.args.context.limits c.answer_lines.new.session.buffer (g.I.Inlet.seen c.args.reader.now) (g.I.Inlet.seen c.read.new.inlet) ended line → EndsWith line c.flush.new.page (g.O.Outlet.seen c.flush.new.outlet) w2 ended result → Serves c.args.context.limits (AnswersCommand g.C.Commands.acts g.C.Commands.unknown c.args.context.time) (Begins g.C.Commands.acts g.C.Commands.unknown c.args.context.time) (g.I.Inlet.seen c.args.reader.now) (g.I.Inlet.seen c.read.new.inlet) c.args.commands.now (g.O.Outlet.seen c.args.writer.now) c.answer_lines.new.commands w2 result
-unread g c ended line w2 result taken reads same closes out =
+ending_behind_empty_read g c ended line w2 result taken reads same closes out =
     let says = AnswersCommand g.C.Commands.acts g.C.Commands.unknown c.args.context.time in
     let begins = Begins g.C.Commands.acts g.C.Commands.unknown c.args.context.time in
-    let o = opened g c in
+    let o = buffer_lines_put_out g c in
     let w1 = g.O.Outlet.seen c.flush.new.outlet in
     let b = g.I.Inlet.seen c.read.new.inlet in
     let left = c.answer_lines.new.session.buffer in
@@ -74,13 +74,13 @@ returns-in-Fault g c =
 pub returns-in-Quit : goal.returns-in-Quit
 returns-in-Quit g c =
     let e = c.in-Quit.ensures in
-    closed g (goal.at.returns-in-Quit g c).After-answer_lines e.0 Quit (codes "") (g.O.Outlet.seen c.end_with.new.outlet) c.end_with.result e.1 e.3 (e.2, refl, c.loop-session.invariant.1.no_fault) c.end_with.ensures
+    ending_line_put_out g (goal.at.returns-in-Quit g c).After-answer_lines e.0 Quit (codes "") (g.O.Outlet.seen c.end_with.new.outlet) c.end_with.result e.1 e.3 (e.2, refl, c.loop-session.invariant.1.no_fault) c.end_with.ensures
 
 pub returns-in-Long : goal.returns-in-Long
 returns-in-Long g c =
     let e = c.in-Long.ensures in
     let w = c.end_with-in-Long in
-    closed g (goal.at.returns-in-Long g c).After-answer_lines e.0 TooLong (codes "bad long\n") (g.O.Outlet.seen w.new.outlet) w.result e.1 e.3 (e.2, refl, c.loop-session.invariant.1.no_fault) w.ensures
+    ending_line_put_out g (goal.at.returns-in-Long g c).After-answer_lines e.0 TooLong (codes "bad long\n") (g.O.Outlet.seen w.new.outlet) w.result e.1 e.3 (e.2, refl, c.loop-session.invariant.1.no_fault) w.ensures
 
 pub returns-then-reads-most : goal.returns-then-reads-most
 returns-then-reads-most g c =
@@ -89,7 +89,7 @@ returns-then-reads-most g c =
     let first = g.I.Inlet.seen c.args.reader.now in
     let w = c.end_with-then-reads-most in
     let all : length (g.I.Inlet.seen c.loop-session.reader).reads ≡ length first.reads + most_reads c.args.context.limits = omega (arith, ap (λ x. length x) i.1.reads_are, length-append first.reads i.1.earlier, i.1.count, c.if-reads-most.true, i.3) in
-    closed g (goal.at.returns-then-reads-most g c).After-answer_lines e.0 TooManyReads (codes "bad reads\n") (g.O.Outlet.seen w.new.outlet) w.result e.1 e.3 (e.2, all, refl, i.1.no_fault) w.ensures
+    ending_line_put_out g (goal.at.returns-then-reads-most g c).After-answer_lines e.0 TooManyReads (codes "bad reads\n") (g.O.Outlet.seen w.new.outlet) w.result e.1 e.3 (e.2, all, refl, i.1.no_fault) w.ensures
 
 pub returns-then-not-flush : goal.returns-then-not-flush
 returns-then-not-flush g c =
@@ -104,7 +104,7 @@ pub loop-session-preserved : goal.loop-session-preserved
 loop-session-preserved g c =
     let r = c.in-Got.ensures in
     let says = AnswersCommand g.C.Commands.acts g.C.Commands.unknown c.args.context.time in
-    let o = opened g (goal.at.loop-session-preserved g c).After-read in
+    let o = buffer_lines_put_out g (goal.at.loop-session-preserved g c).After-read in
     let b = g.I.Inlet.seen c.read.new.inlet in (
       c.if-not-flush.ensures.empty,
       session_open_after_read c.args.context.limits says _ _ _ _ _ _ _ _ b c.read.new.self r.0 o r.1 r.2 r.3 r.4 r.5 r.6,
@@ -116,7 +116,7 @@ loop-session-preserved g c =
 pub returns-in-End : goal.returns-in-End
 returns-in-End g c =
     let r = c.in-End.ensures in
-    let o = opened g (goal.at.returns-in-End g c).After-read in
+    let o = buffer_lines_put_out g (goal.at.returns-in-End g c).After-read in
     let none = is_empty_of c.as_slice.result.now c.read.new.self c.answer_lines.new.session.buffer c.as_slice.ensures r.0 c.if-is_empty.ensures in
     session_ends_without_line c.args.context.limits (AnswersCommand g.C.Commands.acts g.C.Commands.unknown c.args.context.time) (Begins g.C.Commands.acts g.C.Commands.unknown c.args.context.time) _ _ _ _ _ _ _ _ (g.I.Inlet.seen c.read.new.inlet) Eof o r.2 r.5 (none, (r.1, (_, r.3)), refl, r.4 ∙ o.no_fault)
 
@@ -125,10 +125,10 @@ returns-in-End-2 g c =
     let r = c.in-End.ensures in
     let w = c.end_with-in-End-2 in
     let some = is_some_of c.as_slice.result.now c.read.new.self c.answer_lines.new.session.buffer c.as_slice.ensures r.0 c.if-is_empty.ensures in
-    unread g (goal.at.returns-in-End-2 g c).After-read CutLine (codes "bad cut\n") (g.O.Outlet.seen w.new.outlet) w.result r.2 r.3 r.5 (c.in-Next.ensures.2, some, (r.1, (_, r.3)), refl, r.4 ∙ c.loop-session.invariant.1.no_fault) w.ensures
+    ending_behind_empty_read g (goal.at.returns-in-End-2 g c).After-read CutLine (codes "bad cut\n") (g.O.Outlet.seen w.new.outlet) w.result r.2 r.3 r.5 (c.in-Next.ensures.2, some, (r.1, (_, r.3)), refl, r.4 ∙ c.loop-session.invariant.1.no_fault) w.ensures
 
 pub returns-in-Failed : goal.returns-in-Failed
 returns-in-Failed g c =
     let r = c.in-Failed.ensures in
     let w = c.end_with-in-Failed in
-    unread g (goal.at.returns-in-Failed g c).After-read ReadFault (codes "bad read\n") (g.O.Outlet.seen w.new.outlet) w.result r.1 r.2 r.4 (c.in-Next.ensures.2, refl, r.3 ∙ ap (λ k. k + 1) c.loop-session.invariant.1.no_fault) w.ensures
+    ending_behind_empty_read g (goal.at.returns-in-Failed g c).After-read ReadFault (codes "bad read\n") (g.O.Outlet.seen w.new.outlet) w.result r.1 r.2 r.4 (c.in-Next.ensures.2, refl, r.3 ∙ ap (λ k. k + 1) c.loop-session.invariant.1.no_fault) w.ensures

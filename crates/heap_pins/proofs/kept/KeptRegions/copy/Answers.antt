@@ -1,4 +1,4 @@
-use Rattle.std.proofs.Common.{◌≡◌, ◌<◌, ◌-◌, ◌∙◌, None, length, suc, sym, ap, arith, slice_index_or}
+use Rattle.std.proofs.Common.{◌≡◌, ◌<◌, ◌-◌, ◌∙◌, None, Some, length, suc, sym, ap, arith, slice_index_or}
 use Rattle.std.proofs.lemmas.List.{length-map}
 use Rattle.heap_pins.specs.KeptRegions.{KeptContents}
 use Rattle.heap_pins.specs.Slots.{copy_in}
@@ -23,7 +23,7 @@ returns-in-Some c =
     let i = c.get.result - 1 in
     let at : slice_index_or slots c.args.region 0 ≡ suc (c.get.result - 1) = omega (arith, number, c.in_default) in
     let item = item_is_kept_of_region kept slots c.args.region i c.index.result.now lt at (item_is_read kept i c.index.result.now (omega (arith, at, c.self.invariant.table.within c.args.region)) c.index.ensures) in
-    ap (λ (k : KeptContents). slice_index_or k.copies c.args.region None) (sym c.self.view_is) ∙ item.0 ∙ c.in-Some.is
+    ap (λ (k : KeptContents). slice_index_or k.copies c.args.region None) (sym c.self.view_is) ∙ item.0 ∙ c.in-Some.is ∙ ap Some (sym c.region.ensures)
 
 pub returns-in-None : goal.returns-in-None
 returns-in-None c =

@@ -2,11 +2,11 @@ use Rattle.std.proofs.Common.{◌≡◌, ◌<◌, subst, arith}
 use Rattle.heap_trail.specs.Trail.{retained}
 use Rattle.heap_trail.proofs.RetainedRecords.{has_record}
 use Rattle.heap_questions.specs.PastTrails.{IsPinAgo}
-use Rattle.heap_questions.proofs.WrittenSlots.{can_walk, opened, walked_one}
+use Rattle.heap_questions.proofs.WrittenSlots.{can_walk, fresh_pin_shows_current_state, walked_one}
 use Rattle.heap_questions.proofs.past.seen.past_pin.Goals as goal
 
 pub loop-n-init : goal.loop-n-init
-loop-n-init c = opened c.args.machine.now.trail c.world-world.result.now c.in_ok-pin.pin c.world-world.ensures.value c.in_ok-pin.ensures.opened
+loop-n-init c = fresh_pin_shows_current_state c.args.machine.now.trail c.world-world.result.now c.in_ok-pin.pin c.world-world.ensures.value c.in_ok-pin.ensures.opened
 
 pub walk_back-requires : goal.walk_back-requires
 walk_back-requires c =

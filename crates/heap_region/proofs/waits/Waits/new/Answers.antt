@@ -6,8 +6,8 @@ none_waits : (n : ℕ) → map (wait_turned false) (replicate n 0) ≡ replicate
 none_waits zero = refl
 none_waits (suc n) = ap (λ (l : List ℕ). 0 ∷ l) (none_waits n)
 
-opened : (l : List ℕ) (n : ℕ) → l ≡ replicate n 0 → map (wait_turned false) l ≡ replicate n 0
-opened l n e = ap (map (wait_turned false)) e ∙ none_waits n
+zeros_turned_are_zeros : (l : List ℕ) (n : ℕ) → l ≡ replicate n 0 → map (wait_turned false) l ≡ replicate n 0
+zeros_turned_are_zeros l n e = ap (map (wait_turned false)) e ∙ none_waits n
 
 pub returns : goal.returns
-returns c = opened _ c.args.count (search rules)
+returns c = zeros_turned_are_zeros _ c.args.count (search rules)

@@ -5,7 +5,7 @@ use Rattle.hprof_text.specs.Text.{object_dump}
 use Rattle.hprof_text.specs.declared.section.Section.TheVariants.{Objects}
 use Rattle.hprof_text.proofs.AddedSizes.{section_item_is_measured, section_items_are_measured}
 use Rattle.hprof_text.proofs.Sections.{object_item_is_its_dump}
-use Rattle.hprof_text.proofs.ViewedObjects.{fewer_places_left_after_next, here, object_sized, no_objects_past_places, number_after_place_within}
+use Rattle.hprof_text.proofs.ViewedObjects.{fewer_places_left_after_next, object_viewed_at_place, object_sized, no_objects_past_places, number_after_place_within}
 use Rattle.hprof_text.proofs.measure.Measure.add_objects.Goals as goal
 
 pub add-requires-clause-limit : goal.add-requires-clause-limit
@@ -24,7 +24,7 @@ loop-here-preserved g c =
     let places = g.V.View.places c.args.view.now in
     let i = c.loop-here.passed in
     let e = sym c.loop-here.invariant.here ∙ c.in-Some.is in
-    let h = here image places i c.in-Some.at c.kind.result c.words.result.now c.classes-classes.ensures.limits c.classes-classes.ensures.placed e (c.kind.ensures i e) (c.words.ensures i e) in
+    let h = object_viewed_at_place image places i c.in-Some.at c.kind.result c.words.result.now c.classes-classes.ensures.limits c.classes-classes.ensures.placed e (c.kind.ensures i e) (c.words.ensures i e) in
     let size = ap₂ (λ s cs. dump_size s cs c.kind.result (length c.words.result.now)) c.id_size-ids.ensures c.classes-classes.ensures.value in
     let item = object_dump ids image.classes h.object ∷ [] in
     let sized = ap (λ n. n ∷ []) (object_sized ids image i c.kind.result c.words.result.now h ∙ sym (c.dump_size.ensures.value ∙ size)) in

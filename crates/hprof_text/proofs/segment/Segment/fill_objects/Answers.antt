@@ -7,7 +7,7 @@ use Rattle.hprof_text.specs.declared.Cursor.TheVariants.{Object}
 use Rattle.hprof_text.specs.declared.section.Section.TheVariants.{Objects}
 use Rattle.hprof_text.proofs.FilledSegments.{one_sub_record_item_offered, taken_item_fills_body, item_not_taken_is_left, all_items_fill_body}
 use Rattle.hprof_text.proofs.NumberedPieces.{body_filled_to_cursor}
-use Rattle.hprof_text.proofs.ViewedObjects.{here, is_there, object_record, number_after_place_within, no_objects_past_places, part_of_object}
+use Rattle.hprof_text.proofs.ViewedObjects.{object_viewed_at_place, is_there, object_record, number_after_place_within, no_objects_past_places, part_of_object}
 use Rattle.hprof_text.proofs.segment.Segment.fill_objects.Goals as goal
 
 pub returns-then-not-taken-clause-filled : goal.returns-then-not-taken-clause-filled
@@ -33,7 +33,7 @@ offer_object-requires-clause-small g c =
     let e = sym (c.loop-here.invariant.here c.requires.0 c.requires.1) ∙ c.in-Some.is in
     let image = g.V.View.image v in
     let s = c.object-object.ensures i e in
-    (here image (g.V.View.places v) i c.in-Some.at c.kind.result c.words.result.now c.classes-classes.ensures.limits c.classes-classes.ensures.placed e (part_of_object (λ o. o.kind) (slice_get image.objects i) c.object-object.result _ c.kind.ensures s) (part_of_object (λ o. o.words) (slice_get image.objects i) c.object-object.result _ c.words.ensures s)).small
+    (object_viewed_at_place image (g.V.View.places v) i c.in-Some.at c.kind.result c.words.result.now c.classes-classes.ensures.limits c.classes-classes.ensures.placed e (part_of_object (λ o. o.kind) (slice_get image.objects i) c.object-object.result _ c.kind.ensures s) (part_of_object (λ o. o.words) (slice_get image.objects i) c.object-object.result _ c.words.ensures s)).small
 
 pub loop-here-smaller : goal.loop-here-smaller
 loop-here-smaller g c =

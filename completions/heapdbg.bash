@@ -35,7 +35,7 @@ _heapdbg() {
             ;;
         run) options="$heap --questions --hprof" ;;
         explore) options="$heap --from --hprof --then --port --page --secret" ;;
-        draw) options="$heap --out --hprof" ;;
+        draw) options="$heap --out --first --hprof" ;;
         save) options="$heap --out --to --questions" ;;
         serve) options="$heap --port --sessions --workers --dumps --page --questions --roll --stay --idle --secret --hprof" ;;
         ask) options="--port --secret" ;;

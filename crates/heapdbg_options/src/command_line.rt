@@ -5,7 +5,7 @@ ghost use Rattle.std.specs.Prelude.{option_and_then};
 ghost use Rattle.std.specs.Char.{is_ascii_digit};
 ghost use Rattle.clap.specs.Words.{FailsBy, app_of, fault_of, found_of, kind_of, rows_of, subcommand_of, subcommand_rows_of};
 ghost use Rattle.clap.specs.declared.builder.Command.TheViews.{out-Command};
-ghost use Rattle.heapdbg_options.specs.Parsers.{IsParserOf};
+ghost use Rattle.heapdbg_options.specs.Parsers.{IsParserOf, with_command_rows};
 ghost use Rattle.heapdbg_options.specs.CommandLine.{AreSettingsWithin, HasDefaults, heapdbg_line, named_line, number_in};
 ghost use Rattle.heapdbg_options.specs.CommandLine.{settings_in, settings_of, settings_over, settings_under, texts, option_size, option_value, counted_in, size_in, text_before};
 ghost use Rattle.heapdbg_options.specs.CommandLine.{id_size_in, id_size_of, flag_in, has_dump, keep_after, keep_default, origin_of, path_of, regions_after, regions_default, regions_in, task_in, usual_keep, value_in, wide_default, wide_in};
@@ -66,11 +66,16 @@ fn parse<'a>(alloc: Global, words: &'a [&'a str]) -> Result<ArgMatches<'a>, Erro
 fn parser<'a>(alloc: Global) -> Result<Command<'a>, AllocError>
     ensures { IsParserOf heapdbg_line result }
 {
-    with_commands(alloc, named_parser(alloc), &COMMANDS)
+    let rows = commands();
+    with_commands(alloc, named_parser(alloc), &rows)
 }
 
-// The commands, in the order of help.
-const COMMANDS: [CommandRow; 7] = [RUN, EXPLORE, SAVE, DRAW, SERVE, ASK, FETCH];
+// Returns the commands, in the order of help.
+fn commands() -> [CommandRow; 7]
+    ensures { with_command_rows named_line result ≡ heapdbg_line }
+{
+    [RUN, EXPLORE, SAVE, DRAW, SERVE, ASK, FETCH]
+}
 
 // Creates the parser of the program's name.
 fn named_parser<'a>(alloc: Global) -> Command<'a>

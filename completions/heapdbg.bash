@@ -20,7 +20,7 @@ _heapdbg() {
                 return
             }
             ;;
-        --regions | --mutators | --keep | --area | --time | --port | --to | --sessions | --dumps | --page | --idle)
+        --regions | --mutators | --keep | --area | --time | --port | --to | --sessions | --dumps | --page | --idle | --first)
             return
             ;;
     esac

@@ -505,13 +505,15 @@ task_within false false false false false false false rows task e = cc
 pub settings_within : (o : Option (Text × List Row)) (s : Settings) → option_and_then settings_under o ≡ Some s → AreSettingsWithin s
 settings_within o s e =
     let asked = found_settings_are_asked o s e in
-    let name = asked.found.0 in (
+    let name = asked.found.0 in
+    let picture_rows = value_within_bounds picture_row_numbers asked.found.1 s.picture_rows (omega arith) (omega arith) asked.read.picture_rows in (
       (
         numbers_of_heap_within_bounds s.task s.wide asked.found.1 s.regions s.mutators s.keep asked.read.regions asked.read.mutators asked.read.keep,
         area_within s.task s.wide asked.found.1 s.regions s.area asked.read.area,
       ),
       task_within (bytes_eq name (codes "run")) (bytes_eq name (codes "explore")) (bytes_eq name (codes "draw")) (bytes_eq name (codes "save")) (bytes_eq name (codes "serve")) (bytes_eq name (codes "ask")) (bytes_eq name (codes "fetch")) asked.found.1 s.task asked.task,
-      value_within_bounds picture_row_numbers asked.found.1 s.picture_rows (omega arith) (omega arith) asked.read.picture_rows,
+      picture_rows.0,
+      picture_rows.1,
     )
 
 -- ---- defaults

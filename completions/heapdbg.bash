@@ -20,7 +20,7 @@ _heapdbg() {
                 return
             }
             ;;
-        --regions | --mutators | --keep | --area | --time | --port | --to | --sessions | --dumps | --page | --idle)
+        --regions | --mutators | --keep | --area | --time | --port | --to | --sessions | --dumps | --page | --idle | --first)
             return
             ;;
     esac
@@ -35,7 +35,7 @@ _heapdbg() {
             ;;
         run) options="$heap --questions --hprof" ;;
         explore) options="$heap --from --hprof --then --port --page --secret" ;;
-        draw) options="$heap --out --hprof" ;;
+        draw) options="$heap --out --first --hprof" ;;
         save) options="$heap --out --to --questions" ;;
         serve) options="$heap --port --sessions --workers --dumps --page --questions --roll --stay --idle --secret --hprof" ;;
         ask) options="--port --secret" ;;

@@ -43,6 +43,10 @@ LIMIT = 2_000_000
 LARGE = b"class Node - next:object\n" + b"newprim 0 0 long 1024\n" * 1_025 + b"new 0 0 0\n"
 LARGE_STROKES = {("#4269d0", "9"): 1_024 + 1, ("#efb118", "9"): 1, ("#9498a0", "9"): 2 + 1, ("#eeeeee", "9"): 1, ("url(#dead)", "9"): 1}
 LARGE_BARS = [(1_025, 0, 14), (1_025, 16, 17)]
+# With rows for two regions, each other array has a bar; with rows for all, the node and 255 free cells are seen.
+FEW_STROKES = {**LARGE_STROKES, ("#4269d0", "9"): 2 + 1, ("#9498a0", "9"): 1_024 + 1}
+FEW_BARS = [(3 + place // 64, 16 * (place % 64), 16 * (place % 64) + (14 if place < 1_023 else 1)) for place in range(1_024)]
+ALL_STROKES = {**LARGE_STROKES, ("#4269d0", "9"): 1_025 + 1, ("#efb118", "9"): 1 + 1, ("#9498a0", "9"): 1, ("#eeeeee", "9"): 255 + 1}
 # A node, an array in three regions and one in two, all of them gray: of the arrays each region has a stroke.
 AREA = b"class Node - next:object\nnew 0 0 0\nnewprim 0 1 long 3000\nnewprim 0 2 byte 2000\nsnap\n"
 AREA_STROKES = {
@@ -156,6 +160,30 @@ def large_pictures(program):
     rows = strokes_of(root)[("#4269d0", "9")] // 256
     seen = (status, len(picture) < LIMIT, 256 < rows < 1_024, rows + len(bars_of(root)))
     yield "a large full heap", seen, (0, True, True, 1_100)
+    same = drawn(program, full, "--wide", "1", "--regions", "1100", "--first", "65536")[2]
+    yield "as many rows of a large full heap as there is room for", (same,), (picture,)
+
+
+def asked_pictures(program):
+    """Yields pictures with as many rows as are asked for, in the same form."""
+    words = ["--wide", "1", "--regions", "1030", "--first"]
+    status, root, _, _, error = drawn(program, LARGE, *words, "2")
+    strokes = {key: count for key, count in strokes_of(root).items() if key[1] == "9"}
+    yield "two rows of a large heap", (status, error, strokes, bars_of(root)), (0, b"", FEW_STROKES, FEW_BARS)
+    texts = [text.text for text in root.iter("{http://www.w3.org/2000/svg}text")]
+    others = "1028 other regions, with fewer bytes: each bar shows how full a region is"
+    yield "its texts", (others in texts, texts.count("0"), texts.count("1"), "3" in texts), (True, 1, 1, False)
+    status, root, picture, _, error = drawn(program, LARGE, *words, "65536")
+    strokes = {key: count for key, count in strokes_of(root).items() if key[1] == "9"}
+    yield "all rows of a large heap", (status, error, len(picture) < LIMIT, strokes), (0, b"", True, ALL_STROKES)
+    usual, asked = (drawn(program, LARGE, *words[:-1], *more)[2] for more in ([], ["--first", "1024"]))
+    yield "1,024 rows of a large heap", (usual,), (asked,)
+    status, root, _, _, error = drawn(program, CYCLES, "--first", "1")
+    counts = [strokes_of(root)[key] for key in (("#4269d0", "9"), ("#9498a0", "9"))]
+    # The array's region has more bytes than that of the nodes.
+    yield "one row of a small heap", (status, error, counts, bars_of(root)), (0, b"", [1, 1 + 1 + 1], [(2, 0, 1)])
+    usual, asked = (drawn(program, CYCLES, *more)[2] for more in ([], ["--first", "16"]))
+    yield "16 rows of a small heap", (usual,), (asked,)
 
 
 def area_pictures(program):
@@ -174,6 +202,7 @@ def pictures(program):
     """Yields pictures as (name, what happened, what must happen)."""
     yield from small_pictures(program)
     yield from large_pictures(program)
+    yield from asked_pictures(program)
     yield from area_pictures(program)
 
 

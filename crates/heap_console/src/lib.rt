@@ -36,6 +36,6 @@ pub use load::load_lines;
 pub use load_outlet::{LoadOutlet, LoadStart};
 pub use newest::{NewestLine, NotingOutlet};
 pub use own_forms::{own_keyword_help, own_rows};
-pub use picture::picture_at;
+pub use picture::{PICTURE_ROWS, picture_at};
 pub use prompt::PromptInlet;
 pub use session_log::{LoggedInlet, LoggedOutlet, SessionLog};

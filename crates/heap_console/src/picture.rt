@@ -30,6 +30,9 @@ use hprof_text::View;
 use question_words::{At, moment_at, view_of};
 use std::alloc::{AllocError, Global};
 
+/// The most rows of a picture for which no other number is asked.
+pub const PICTURE_ROWS: u64 = 1_024;
+
 // The width of a picture: a margin, and a pixel for each word of a region.
 const WIDTH: u64 = 1_104;
 
@@ -40,26 +43,32 @@ const PATTERN: &[u8] =
 
 /// Returns a picture of a state, as SVG: a row for each region and a pixel for each word, the cells in the colours of the twelve
 /// classes with the most bytes, with dead, marked and gray objects shown if it is the current state, and a legend with the numbers
-/// of the histogram. Of a heap with more than 256 regions it gives rows to at most 1,024, those with the most bytes, and shows only
-/// how full each other region is. It has less than 2 MB. Fails with NoMemory if an allocation fails, and else as the state is
-/// refused. Looks at each cell that it shows some twenty times.
-pub fn picture_at(alloc: Global, machine: &Machine, at: At) -> Result<Vec<u8>, Refusal>
+/// of the histogram. Of a heap with more than 256 regions, or more than `most_rows`, it gives rows to at most `most_rows`, those
+/// with the most bytes, and shows only how full each other region is. It has less than 2 MB. Fails with NoMemory if an allocation
+/// fails, and else as the state is refused. Looks at each cell that it shows some twenty times.
+pub fn picture_at(
+    alloc: Global,
+    machine: &Machine,
+    at: At,
+    most_rows: u64,
+) -> Result<Vec<u8>, Refusal>
     ensures seen { IfOk result
         (λ picture. (image : Image) × (image_at at machine.now ≡ Ok image)) }
     ensures refused { IfErr result (IsRefusedAt (image_at at machine.now)) }
 {
     let moment = moment_at(machine, at)?;
     let view = view_of(machine, &moment)?;
-    let picture = picture_by(alloc, machine, at, &view)?;
+    let picture = picture_by(alloc, machine, at, &view, most_rows)?;
     Ok(picture)
 }
 
-// Returns the picture of the state that a view shows.
+// Returns the picture of the state that a view shows, with rows for at most `most_rows` regions.
 fn picture_by<V: View>(
     alloc: Global,
     machine: &Machine,
     at: At,
     view: &V,
+    most_rows: u64,
 ) -> Result<Vec<u8>, Refusal>
     ensures { IfErr result (λ e. e ≡ NoMemory) }
 {
@@ -72,6 +81,7 @@ fn picture_by<V: View>(
         at,
         rows,
         ranked: ranked.as_slice(),
+        most_rows,
     };
     let mut text = Vec::new(alloc);
     if matches!(at, At::Current) {
@@ -93,8 +103,13 @@ fn add_picture<C: CellMap>(
     drawing: Drawing<'_>,
     cells: &C,
 ) -> Result<(), AllocError> {
-    let Drawing { rows, ranked, .. } = drawing;
-    let shown = Rows::new(alloc, cells)?;
+    let Drawing {
+        rows,
+        ranked,
+        most_rows,
+        ..
+    } = drawing;
+    let shown = Rows::new(alloc, cells, most_rows)?;
     let lines = shown.count().saturating_add(bar_lines(shown.others()));
     let legend = middle_of(lines).saturating_add(LEGEND_STEP);
     let behind = legend.saturating_add(LEGEND_STEP.saturating_mul(class_lines(ranked)));
@@ -185,13 +200,15 @@ fn add_labels(text: &mut Vec<u8>, count: u64, rows: &Rows) -> Result<(), AllocEr
     Ok(())
 }
 
-// A state as it is drawn: how it was named, the place of the current one, the rows of its histogram and their order.
+// A state as it is drawn: how it was named, the place of the current one, the rows of its histogram and their order, and how many
+// regions may have a row.
 #[derive(Clone, Copy)]
 struct Drawing<'a> {
     at: At,
     place: u64,
     rows: &'a [Row],
     ranked: &'a [usize],
+    most_rows: u64,
 }
 
 // Appends a path of the cells of this sort.

@@ -8,7 +8,7 @@ ghost use Rattle.heap_files.specs.Files.{IsAnswerOfMade, IsDumpAnswer, IsFileAns
 
 use crate::folder::Folder;
 use heap_class::Refusal;
-use heap_console::picture_at;
+use heap_console::{PICTURE_ROWS, picture_at};
 use heap_trail::{Machine, Reply};
 use hprof_text::{Cursor, Piece, View, text_len};
 use question_text::{DumpCut, first_piece, put_pieces};
@@ -146,7 +146,7 @@ pub(crate) fn write_picture<F: Folder>(
     ensures { IsPictureAnswer F.acts path.now (image_at at machine.now) folder.old
         (written_text result) folder.new }
 {
-    let picture = picture_at(alloc, machine, at)?;
+    let picture = picture_at(alloc, machine, at, PICTURE_ROWS)?;
     write_text(folder, path, picture.as_slice())
 }
 

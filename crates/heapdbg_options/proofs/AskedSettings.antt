@@ -13,8 +13,8 @@ use Rattle.clap.specs.Walk.{answers_to, stop_after}
 use Rattle.clap.specs.Words.{Row, Text, first_of, subcommand_of}
 use Rattle.heap_class.specs.declared.IdSize.{IdSize}
 use Rattle.heap_class.specs.declared.IdSize.TheVariants.{Eight}
-use Rattle.heapdbg_options.specs.CommandLine.{AreNumbersOf, AreSettingsWithin, HasDefaults, IsTask, ask_in, idle_in, idle_of, is_guarded, has_secret, stays_in, stays_of, area_after, area_default, area_in, draw_in, dump_origin, dumps_in, dumps_of, dumps_with, page_beside, page_in, page_of, page_with, explore_in, explore_with, is_dump, is_lines, is_pair, has_second, origin_in, origin_of, own_page, own_task, runs_dump, runs_lines, runs_pair, second_task, flag_in, fetch_in, heapdbg_line, id_size_in, id_size_of, is_given, is_task, IsOther, IsThird, keep_after, keep_default, keep_in, most_area, number_in, number_or, other_port, port_in, questions_in, quiet_in, regions_in, rolls_in, save_in, serve_in, serve_with, sessions_in, sessions_of, settings_in, settings_over, settings_under, settings_with, target_in, task_in, third_port, option_value, wide_in, workers_in, workers_of, counted_in, option_size, size_or, size_with, text_before, times_in, has_dump, regions_after, regions_default, run_in, usual_keep, wide_default, with_area_in, value_in}
-use Rattle.heapdbg_options.specs.Numbers.{Numbers, flag_numbers, id_numbers, idle_numbers, most_kept, most_regions, mutator_numbers, port_limit, session_numbers, time_numbers}
+use Rattle.heapdbg_options.specs.CommandLine.{AreNumbersOf, AreSettingsWithin, HasDefaults, IsTask, ask_in, idle_in, idle_of, is_guarded, has_secret, stays_in, stays_of, area_after, area_default, area_in, draw_in, dump_origin, dumps_in, dumps_of, dumps_with, page_beside, page_in, page_of, page_with, explore_in, explore_with, picture_rows_in, is_dump, is_lines, is_pair, has_second, origin_in, origin_of, own_page, own_task, runs_dump, runs_lines, runs_pair, second_task, flag_in, fetch_in, heapdbg_line, id_size_in, id_size_of, is_given, is_task, IsOther, IsThird, keep_after, keep_default, keep_in, most_area, number_in, number_or, other_port, port_in, questions_in, quiet_in, regions_in, rolls_in, save_in, serve_in, serve_with, sessions_in, sessions_of, settings_in, settings_over, settings_under, settings_with, target_in, task_in, third_port, option_value, wide_in, workers_in, workers_of, counted_in, option_size, size_or, size_with, text_before, times_in, has_dump, regions_after, regions_default, run_in, usual_keep, wide_default, with_area_in, value_in}
+use Rattle.heapdbg_options.specs.Numbers.{Numbers, flag_numbers, id_numbers, idle_numbers, most_kept, most_regions, mutator_numbers, picture_row_numbers, port_limit, session_numbers, time_numbers}
 use Rattle.heapdbg_options.specs.declared.settings.Settings.{Settings}
 use Rattle.heapdbg_options.specs.declared.settings.Origin.{Origin}
 use Rattle.heapdbg_options.specs.declared.settings.Origin.TheVariants.{Fresh, Lines, Dump, Dumps}
@@ -107,23 +107,25 @@ pub record AreRead (rows : List Row) (s : Settings) : Type 0 where
   pub questions : questions_in rows ≡ Some s.questions
   pub rolls : rolls_in rows ≡ Some s.rolls
   pub quiet : quiet_in rows ≡ Some s.quiet
+  pub picture_rows : picture_rows_in rows ≡ Some s.picture_rows
 
-settings_keep_all_given : (task : Task) (w u : Bool) (r m k t : Option ℕ) (i : Option IdSize) (q o : Option Bool) (s : Settings) → settings_with task w u r m k t i q o ≡ Some s
-    → (s.task ≡ task) × (w ≡ s.wide) × (u ≡ s.quiet) × (r ≡ Some s.regions) × (m ≡ Some s.mutators) × (k ≡ Some s.keep) × (t ≡ Some s.time) × (i ≡ Some s.ids) × (q ≡ Some s.questions) × (o ≡ Some s.rolls)
-settings_keep_all_given task w u None m k t i q o s e = cc
-settings_keep_all_given task w u (Some r) None k t i q o s e = cc
-settings_keep_all_given task w u (Some r) (Some m) None t i q o s e = cc
-settings_keep_all_given task w u (Some r) (Some m) (Some k) None i q o s e = cc
-settings_keep_all_given task w u (Some r) (Some m) (Some k) (Some t) None q o s e = cc
-settings_keep_all_given task w u (Some r) (Some m) (Some k) (Some t) (Some i) None o s e = cc
-settings_keep_all_given task w u (Some r) (Some m) (Some k) (Some t) (Some i) (Some q) None s e = cc
-settings_keep_all_given task w u (Some r) (Some m) (Some k) (Some t) (Some i) (Some q) (Some o) s e = (cc, cc, cc, cc, cc, cc, cc, cc, cc, cc)
+settings_keep_all_given : (task : Task) (w u : Bool) (r m k t : Option ℕ) (i : Option IdSize) (q o : Option Bool) (f : Option ℕ) (s : Settings) → settings_with task w u r m k t i q o f ≡ Some s
+    → (s.task ≡ task) × (w ≡ s.wide) × (u ≡ s.quiet) × (r ≡ Some s.regions) × (m ≡ Some s.mutators) × (k ≡ Some s.keep) × (t ≡ Some s.time) × (i ≡ Some s.ids) × (q ≡ Some s.questions) × (o ≡ Some s.rolls) × (f ≡ Some s.picture_rows)
+settings_keep_all_given task w u None m k t i q o f s e = cc
+settings_keep_all_given task w u (Some r) None k t i q o f s e = cc
+settings_keep_all_given task w u (Some r) (Some m) None t i q o f s e = cc
+settings_keep_all_given task w u (Some r) (Some m) (Some k) None i q o f s e = cc
+settings_keep_all_given task w u (Some r) (Some m) (Some k) (Some t) None q o f s e = cc
+settings_keep_all_given task w u (Some r) (Some m) (Some k) (Some t) (Some i) None o f s e = cc
+settings_keep_all_given task w u (Some r) (Some m) (Some k) (Some t) (Some i) (Some q) None f s e = cc
+settings_keep_all_given task w u (Some r) (Some m) (Some k) (Some t) (Some i) (Some q) (Some o) None s e = cc
+settings_keep_all_given task w u (Some r) (Some m) (Some k) (Some t) (Some i) (Some q) (Some o) (Some f) s e = (cc, cc, cc, cc, cc, cc, cc, cc, cc, cc, cc)
 
 -- the settings over a heap that is wide, or isn't, have what the rows tell
 pub settings_have_what_rows_tell : (task : Task) (rows : List Row) (w u : Bool) (s : Settings) → settings_over task rows w u ≡ Some s
     → (s.task ≡ task) × (w ≡ s.wide) × (u ≡ s.quiet) × (regions_in task w rows ≡ Some s.regions) × (value_in mutator_numbers rows ≡ Some s.mutators) × (keep_in task w rows ≡ Some s.keep) × (value_in time_numbers rows ≡ Some s.time) × (id_size_in rows ≡ Some s.ids)
-    × (questions_in rows ≡ Some s.questions) × (rolls_in rows ≡ Some s.rolls)
-settings_have_what_rows_tell task rows w u s found = settings_keep_all_given task w u (regions_in task w rows) (value_in mutator_numbers rows) (keep_in task w rows) (value_in time_numbers rows) (id_size_in rows) (questions_in rows) (rolls_in rows) s found
+    × (questions_in rows ≡ Some s.questions) × (rolls_in rows ≡ Some s.rolls) × (picture_rows_in rows ≡ Some s.picture_rows)
+settings_have_what_rows_tell task rows w u s found = settings_keep_all_given task w u (regions_in task w rows) (value_in mutator_numbers rows) (keep_in task w rows) (value_in time_numbers rows) (id_size_in rows) (questions_in rows) (rolls_in rows) (picture_rows_in rows) s found
 
 -- the settings over a heap that is wide, or isn't, with the area that the rows tell, are those of the rows
 settings_with_area_are_read : (task : Task) (rows : List Row) (w u : Bool) (s : Settings) (area : ℕ) → wide_in rows ≡ Some w → quiet_in rows ≡ Some u → settings_over task rows w u ≡ Some s → area_in s.task s.wide s.regions rows ≡ Some area
@@ -143,6 +145,7 @@ settings_with_area_are_read task rows w u s area wide quiet found told =
         questions = there.8;
         rolls = there.9;
         quiet = quiet ∙ ap (λ b. Some b) there.2;
+        picture_rows = there.10;
       },
     )
 
@@ -502,12 +505,15 @@ task_within false false false false false false false rows task e = cc
 pub settings_within : (o : Option (Text × List Row)) (s : Settings) → option_and_then settings_under o ≡ Some s → AreSettingsWithin s
 settings_within o s e =
     let asked = found_settings_are_asked o s e in
-    let name = asked.found.0 in (
+    let name = asked.found.0 in
+    let picture_rows = value_within_bounds picture_row_numbers asked.found.1 s.picture_rows (omega arith) (omega arith) asked.read.picture_rows in (
       (
         numbers_of_heap_within_bounds s.task s.wide asked.found.1 s.regions s.mutators s.keep asked.read.regions asked.read.mutators asked.read.keep,
         area_within s.task s.wide asked.found.1 s.regions s.area asked.read.area,
       ),
       task_within (bytes_eq name (codes "run")) (bytes_eq name (codes "explore")) (bytes_eq name (codes "draw")) (bytes_eq name (codes "save")) (bytes_eq name (codes "serve")) (bytes_eq name (codes "ask")) (bytes_eq name (codes "fetch")) asked.found.1 s.task asked.task,
+      picture_rows.0,
+      picture_rows.1,
     )
 
 -- ---- defaults
@@ -756,6 +762,7 @@ defaults_of words s e =
       questions = default_flag (codes "questions") words asked.found s.questions refl asked.is asked.named asked.read.questions;
       rolls = default_flag (codes "roll") words asked.found s.rolls refl asked.is asked.named asked.read.rolls;
       quiet = default_flag (codes "quiet") words asked.found s.quiet refl asked.is asked.named asked.read.quiet;
+      picture_rows = ungiven_number_is_default picture_row_numbers words asked.found s.picture_rows refl asked.is asked.named asked.read.picture_rows;
       wide = λ other undumped. default_wide words asked.found s.wide asked.is asked.named asked.read.wide other undumped;
       sessions = λ other. each_task_has_property (λ t. sessions_of t ≡ 1) (bytes_eq name (codes "run")) (bytes_eq name (codes "explore")) (bytes_eq name (codes "draw")) (bytes_eq name (codes "save")) (bytes_eq name (codes "serve")) (bytes_eq name (codes "ask")) (bytes_eq name (codes "fetch")) rows s.task
           refl (λ origin p is at. refl) refl (λ target. refl) (λ port. refl) (λ port. refl)

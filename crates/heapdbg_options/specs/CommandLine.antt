@@ -14,7 +14,7 @@ use Rattle.heap_class.specs.declared.IdSize.{IdSize}
 use Rattle.heap_class.specs.declared.IdSize.TheVariants.{Four, Eight}
 use Rattle.heap_world.specs.Limits.{AreHeapSettings, AreNarrowSettings, narrow_keep, narrow_limits, wide_limits, with_area}
 use Rattle.heap_world.specs.declared.Limits.{Limits}
-use Rattle.heapdbg_options.specs.Numbers.{Numbers, flag_numbers, id_numbers, idle_numbers, most_kept, most_regions, mutator_numbers, port_limit, session_numbers, time_numbers}
+use Rattle.heapdbg_options.specs.Numbers.{Numbers, flag_numbers, id_numbers, idle_numbers, most_kept, most_regions, mutator_numbers, picture_row_numbers, port_limit, session_numbers, time_numbers}
 use Rattle.heapdbg_options.specs.declared.settings.Origin.{Origin}
 use Rattle.heapdbg_options.specs.declared.settings.Origin.TheVariants.{Fresh, Lines, Dump, Dumps}
 use Rattle.heapdbg_options.specs.declared.settings.Service.{Service}
@@ -148,7 +148,10 @@ out_option = record (value_option (codes "out")) { required = true }
 
 -- the command `draw`
 abbrev pub draw_line : App
-draw_line = with_rule (with_rule (session_line (codes "draw")) out_option) dump_option
+draw_line =
+    with_rule
+    (with_rule (with_rule (session_line (codes "draw")) out_option) (value_option (codes "first")))
+    dump_option
 
 -- the command `fetch`
 abbrev pub fetch_line : App
@@ -240,9 +243,9 @@ id_size_in rows = option_and_then id_size_of (value_in id_numbers rows)
 
 -- the settings without an area, if each option has a value in its range
 abbrev pub settings_with : Task → Bool → Bool → Option ℕ → Option ℕ → Option ℕ → Option ℕ
-    → Option IdSize → Option Bool → Option Bool → Option Settings
+    → Option IdSize → Option Bool → Option Bool → Option ℕ → Option Settings
 settings_with task wide quiet (Some regions) (Some mutators) (Some keep) (Some time) (Some ids)
-    (Some questions) (Some rolls) =
+    (Some questions) (Some rolls) (Some picture_rows) =
     Some (record {
       task = task;
       wide = wide;
@@ -255,8 +258,9 @@ settings_with task wide quiet (Some regions) (Some mutators) (Some keep) (Some t
       questions = questions;
       rolls = rolls;
       quiet = quiet;
+      picture_rows = picture_rows;
     })
-settings_with task wide quiet _ _ _ _ _ _ _ = None
+settings_with task wide quiet _ _ _ _ _ _ _ _ = None
 
 -- whether an option is given as 1: not, if it is not given
 abbrev pub flag_in : Text → List Row → Option Bool
@@ -273,6 +277,10 @@ rolls_in rows = flag_in (codes "roll") rows
 -- whether no progress is shown
 abbrev pub quiet_in : List Row → Option Bool
 quiet_in rows = flag_in (codes "quiet") rows
+
+-- the most regions whose cells a picture shows
+abbrev pub picture_rows_in : List Row → Option ℕ
+picture_rows_in rows = value_in picture_row_numbers rows
 
 -- a dump is given
 abbrev pub has_dump : List Row → Bool
@@ -363,7 +371,7 @@ with_area_in rows s =
 abbrev pub settings_over : Task → List Row → Bool → Bool → Option Settings
 settings_over task rows wide quiet = settings_with task wide quiet (regions_in task wide rows)
     (value_in mutator_numbers rows) (keep_in task wide rows) (value_in time_numbers rows)
-    (id_size_in rows) (questions_in rows) (rolls_in rows)
+    (id_size_in rows) (questions_in rows) (rolls_in rows) (picture_rows_in rows)
 
 -- the settings of a task and its options
 abbrev pub settings_in : Task → List Row → Option Settings
@@ -632,7 +640,9 @@ IsHeapWithin s =
 
 -- the settings are within their limits
 abbrev pub AreSettingsWithin : Settings → Type 0
-AreSettingsWithin s = IsHeapWithin s × IsTask s.task
+AreSettingsWithin s =
+    IsHeapWithin s × IsTask s.task × (1 ≤ s.picture_rows)
+    × (s.picture_rows ≤ picture_row_numbers.most)
 
 -- the number of sessions
 abbrev pub sessions_of : Task → ℕ
@@ -716,6 +726,7 @@ pub record HasDefaults (words : List Text) (s : Settings) : Type 0 where
   pub questions : is_given (codes "questions") words ≡ false → s.questions ≡ false
   pub rolls : is_given (codes "roll") words ≡ false → s.rolls ≡ false
   pub quiet : is_given (codes "quiet") words ≡ false → s.quiet ≡ false
+  pub picture_rows : is_given (codes "first") words ≡ false → s.picture_rows ≡ 1024
   pub wide : is_given (codes "wide") words ≡ false → is_given (codes "hprof") words ≡ false → s.wide ≡ false
   pub sessions : is_given (codes "sessions") words ≡ false → sessions_of s.task ≡ 1
   pub workers : is_given (codes "workers") words ≡ false → workers_of s.task ≡ 0

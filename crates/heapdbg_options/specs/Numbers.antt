@@ -87,6 +87,10 @@ session_numbers = from_to (codes "sessions") 1 1 1000
 abbrev pub idle_numbers : Numbers
 idle_numbers = from_to (codes "idle") 0 1 86400
 
+-- `--first`
+abbrev pub picture_row_numbers : Numbers
+picture_row_numbers = from_to (codes "first") 1024 1 region_limit
+
 -- the options that take the same numbers whatever else is given
 abbrev pub number_options : List Numbers
 number_options =
@@ -96,6 +100,7 @@ number_options =
     ∷ id_numbers
     ∷ flag_numbers (codes "quiet")
     ∷ flag_numbers (codes "questions")
+    ∷ picture_row_numbers
     ∷ session_numbers
     ∷ flag_numbers (codes "workers")
     ∷ flag_numbers (codes "roll")

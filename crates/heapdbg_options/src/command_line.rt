@@ -15,8 +15,8 @@ ghost use Rattle.heapdbg_options.specs.Refusals.{IsMistake, IsReadOrMistake, IsR
 
 use crate::line_words::{is_help, is_version};
 use crate::option_rows::{
-    AREA, CommandRow, IDS, KEEP, MUTATORS, OptionRow, QUESTIONS, QUIET, REGIONS, ROLL, TIME, WIDE,
-    with_commands,
+    AREA, CommandRow, FIRST, IDS, KEEP, MUTATORS, OptionRow, QUESTIONS, QUIET, REGIONS, ROLL, TIME,
+    WIDE, with_commands,
 };
 use crate::refusal::{Mistake, VERSION, version_by_command, version_by_option};
 use crate::save_options::{SAVE, save_task};
@@ -237,6 +237,7 @@ fn settings_over(
     let ids = id_size_from(options)?;
     let questions = flag_from(options, QUESTIONS)?;
     let rolls = flag_from(options, ROLL)?;
+    let picture_rows = number_of(options, FIRST)?;
     Ok(Settings {
         task,
         wide,
@@ -249,6 +250,7 @@ fn settings_over(
         questions,
         rolls,
         quiet,
+        picture_rows,
     })
 }
 

@@ -287,6 +287,12 @@ pub(crate) const OUT: OptionRow = plain_row!(
     "File that the last state is dumped to; if not given, --to is required"
 );
 
+// The option `--first N`.
+pub(crate) const FIRST: OptionRow = number_row!(
+    "first", "N", "Regions whose cells are drawn, those with the most bytes", 1 " to " 65536, 1024,
+    "; the others are bars [default: 1024]"
+);
+
 // The option `--out PATH` of `fetch`, which has to be given.
 pub(crate) const NEEDED_OUT: OptionRow = OptionRow {
     help: "File that the dump goes to",

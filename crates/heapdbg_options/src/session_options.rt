@@ -8,8 +8,8 @@ ghost use Rattle.heapdbg_options.specs.declared.settings.Task.TheVariants.{Explo
 
 use crate::command_line::has_dump;
 use crate::option_rows::{
-    ASKED_PORT, CommandRow, DUMP_AREA, DUMP_KEEP, DUMP_REGIONS, DUMP_WIDE, EXPLORE_KEEP, FROM,
-    HPROF, IDS, MUTATORS, NEEDED_OUT, OptionRow, PAGE, QUESTIONS, QUIET, SECRET, THEN, TIME,
+    ASKED_PORT, CommandRow, DUMP_AREA, DUMP_KEEP, DUMP_REGIONS, DUMP_WIDE, EXPLORE_KEEP, FIRST,
+    FROM, HPROF, IDS, MUTATORS, NEEDED_OUT, OptionRow, PAGE, QUESTIONS, QUIET, SECRET, THEN, TIME,
 };
 use crate::refusal::Mistake;
 use crate::settings::{Origin, Task};
@@ -82,6 +82,7 @@ pub(crate) const DRAW: CommandRow = CommandRow {
             help: "File that the picture goes to, as SVG",
             ..NEEDED_OUT
         },
+        FIRST,
         HPROF,
     ],
 };

@@ -112,6 +112,8 @@ pub struct Settings {
     pub rolls: bool,
     /// Whether no progress is shown on standard error.
     pub quiet: bool,
+    /// The most rows of a picture, each of a region whose cells it shows, 1 to 65,536.
+    pub picture_rows: u64,
 }
 
 /// The reason why a command line gives no settings.

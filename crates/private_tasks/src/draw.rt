@@ -62,13 +62,13 @@ fn draw_on<R: AllocGlobal + Clock + Eprint + Files, I: Inlet, O: Outlet>(
     let limits = session_limits(wide);
     let ended = serve_asking(rt.alloc(), reader, writer, &mut asking, time, limits);
     let machine = &asking.local.machine;
-    draw_after(rt, request.path, is_terminal, outcome(ended), machine)
+    draw_after(rt, request, is_terminal, outcome(ended), machine)
 }
 
 // Draws the state that a session left, if its outcome is none of a fault.
 fn draw_after<R: AllocGlobal + Eprint + Files>(
     rt: &R,
-    path: Option<&str>,
+    request: Request<'_>,
     is_terminal: bool,
     session: Result<(), Fault>,
     machine: &Machine,
@@ -76,23 +76,24 @@ fn draw_after<R: AllocGlobal + Eprint + Files>(
     ensures { IsDrawingOutcome session result }
 {
     session?;
-    write_picture(rt, path, is_terminal, machine)
+    write_picture(rt, request, is_terminal, machine)
 }
 
-// Draws the current state of a machine to the file of a path.
+// Draws the current state of a machine to the file that the request names, with as many rows as it asks for.
 fn write_picture<R: AllocGlobal + Eprint + Files>(
     rt: &R,
-    path: Option<&str>,
+    request: Request<'_>,
     is_terminal: bool,
     machine: &Machine,
 ) -> Result<(), Fault>
     ensures { (result ≡ Ok tt)
         ⊎ ((result ≡ Err Fault.Out) ⊎ (result ≡ Err Fault.Memory)) }
 {
-    let Ok(picture) = picture_at(rt.alloc(), machine, At::Current) else {
+    let Settings { picture_rows, .. } = request.settings;
+    let Ok(picture) = picture_at(rt.alloc(), machine, At::Current, picture_rows) else {
         return Err(Fault::Memory);
     };
-    let Some(path) = path else {
+    let Some(path) = request.path else {
         return Err(Fault::Memory);
     };
     let file = match fs::create(rt, path) {

@@ -6,11 +6,8 @@ use crate::picture::map::{CellMap, cells_each, place_of};
 use heap_questions::CellState;
 use std::alloc::{AllocError, Global};
 
-// A heap of at most this many regions is shown whole.
+// A heap of at most this many regions is shown whole, if it may have as many rows.
 const WHOLE_LIMIT: u64 = 256;
-
-// The most rows of a picture of a larger heap.
-const ROW_LIMIT: u64 = 1_024;
 
 // The most bytes that the rows of such a picture take. The bars of all other regions take 0.7 MB at most.
 const TEXT_LIMIT: u64 = 1_200_000;
@@ -109,14 +106,14 @@ fn keys_of(alloc: Global, contents: &[Contents]) -> Result<Vec<u64>, AllocError>
     Ok(keys)
 }
 
-// Marks the regions that get a row: those with the most bytes, as many as there is room for.
-fn mark_largest(marked: &mut [bool], contents: &[Contents], keys: &[u64]) {
+// Marks the regions that get a row: those with the most bytes, `most_rows` of them, or as many as there is room for.
+fn mark_largest(marked: &mut [bool], contents: &[Contents], keys: &[u64], most_rows: u64) {
     let count = contents.len() as u64;
     let mut rows: u64 = 0;
     let mut left = TEXT_LIMIT;
     for key in keys {
         let region = (*key).checked_rem(count).unwrap_or(0) as usize;
-        if rows < ROW_LIMIT && region < marked.len() && region < contents.len() {
+        if rows < most_rows && region < marked.len() && region < contents.len() {
             let text = contents[region].text;
             if text <= left {
                 marked[region] = true;
@@ -139,17 +136,26 @@ pub(crate) struct Rows {
 }
 
 impl Rows {
-    // Gives rows to regions, in the order of their numbers: to all of a small heap, and of a larger one to those with the most
-    // bytes. Fails if an allocation fails.
-    pub(crate) fn new<C: CellMap>(alloc: Global, cells: &C) -> Result<Rows, AllocError> {
-        let is_whole = cells.count() <= WHOLE_LIMIT;
+    // Gives rows to at most `most_rows` regions, in the order of their numbers: to all of a small heap, and else to those with the
+    // most bytes. Fails if an allocation fails.
+    pub(crate) fn new<C: CellMap>(
+        alloc: Global,
+        cells: &C,
+        most_rows: u64,
+    ) -> Result<Rows, AllocError> {
+        let is_whole = cells.count() <= WHOLE_LIMIT.min(most_rows);
         let mut marked = vec![in alloc; is_whole; cells.count() as usize]?;
         let mut contents = Vec::new(alloc);
         if !is_whole {
             contents = all_contents(alloc, cells)?;
             share_contents(contents.as_mut_slice(), cells);
             let keys = keys_of(alloc, contents.as_slice())?;
-            mark_largest(marked.as_mut_slice(), contents.as_slice(), keys.as_slice());
+            mark_largest(
+                marked.as_mut_slice(),
+                contents.as_slice(),
+                keys.as_slice(),
+                most_rows,
+            );
         }
         Rows::of_marked(alloc, marked.as_slice(), contents)
     }

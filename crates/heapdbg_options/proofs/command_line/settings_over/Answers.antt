@@ -1,6 +1,6 @@
 use Rattle.std.proofs.Common.{◌≡◌, ◌∙◌, None, ap, codes, sym}
 use Rattle.clap.specs.Words.{found_of, rows_of}
-use Rattle.heapdbg_options.specs.CommandLine.{id_size_in, keep_in, option_size, questions_in, regions_in, rolls_in, settings_over, value_in}
+use Rattle.heapdbg_options.specs.CommandLine.{id_size_in, keep_in, option_size, picture_rows_in, questions_in, regions_in, rolls_in, settings_over, value_in}
 use Rattle.heapdbg_options.specs.Numbers.{most_kept, most_regions, mutator_numbers, time_numbers}
 use Rattle.heapdbg_options.proofs.AskedSettings.{settings_have_what_rows_tell}
 use Rattle.heapdbg_options.proofs.Mistakes.{unread_part_is_handed_on}
@@ -42,3 +42,8 @@ pub returns-in_err-rolls : goal.returns-in_err-rolls
 returns-in_err-rolls c =
     let rows = rows_of (found_of c.args.options.now) in
     unread_part_is_handed_on (settings_over c.args.task rows c.args.wide c.args.quiet) (rolls_in rows) rows c.in_err-rolls.field-0.0 c.from_residual-in_err-rolls.result (λ s made. (s.rolls, (settings_have_what_rows_tell c.args.task rows c.args.wide c.args.quiet s made).9)) c.from_residual-in_err-rolls.ensures.1 c.in_err-rolls.ensures.1.0 c.in_err-rolls.ensures.1.1
+
+pub returns-in_err-picture_rows : goal.returns-in_err-picture_rows
+returns-in_err-picture_rows c =
+    let rows = rows_of (found_of c.args.options.now) in
+    unread_part_is_handed_on (settings_over c.args.task rows c.args.wide c.args.quiet) (picture_rows_in rows) rows c.in_err-picture_rows.field-0.0 c.from_residual-in_err-picture_rows.result (λ s made. (s.picture_rows, (settings_have_what_rows_tell c.args.task rows c.args.wide c.args.quiet s made).10)) c.from_residual-in_err-picture_rows.ensures.1 c.in_err-picture_rows.ensures.1.0 c.in_err-picture_rows.ensures.1.1

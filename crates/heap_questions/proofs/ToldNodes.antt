@@ -13,13 +13,13 @@ use Rattle.std.proofs.Math.Pow.{pow_mono}
 use Rattle.heap_questions.specs.Search.{node_with}
 use Rattle.heap_questions.specs.Hints.{AreTold, AreToldTo, IsToldAt, id_after, id_steps, node_told, node_told_by}
 use Rattle.heap_questions.specs.declared.nodes.Node.{Node}
-use Rattle.heap_questions.specs.declared.nodes.Hint.{Hint}
+use Rattle.heap_questions.specs.declared.hints.Hint.{Hint}
 use Rattle.heap_questions.proofs.LongerLists.{got_same}
 use Rattle.heap_questions.proofs.NodePlaces.{place_found}
 
 -- ---- all hints
 
-past_hints : (hints : List Hint) (s : ℕ) → length hints * 64 ≤ s → node_told hints s ≡ None
+pub past_hints : (hints : List Hint) (s : ℕ) → length hints * 64 ≤ s → node_told hints s ≡ None
 unfolding node_told
 past_hints hints s h = ap (option_and_then (λ (hint : Hint). node_told_by hint (s % 64))) (slice_get_past hints (s / 64) (omega (arith, h)))
 

@@ -83,7 +83,7 @@ fn add_references<V: View>(
     ensures refused { IfErr result (λ e. e ≡ NoMemory) }
 {
     let classes = view.classes();
-    if let Some(object) = shown_with(view, nodes, nodes.id(node)) {
+    if let Some(object) = shown_with(view, nodes, nodes.id(view, node)) {
         for slot in 0..object.words().len() {
             if let Some(id) = named_along(&classes, &object, slot) {
                 add_reference(nodes, node, id, back)?;

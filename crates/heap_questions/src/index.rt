@@ -58,6 +58,6 @@ impl<'a, V: View> ObjectIndex<'a, V> {
         ensures { OnOk result (ids.new.items
             ≡ ids.old.items ++ map (λ o. o.id) self.now.objects) }
     {
-        self.nodes.add_ids(ids)
+        self.nodes.add_ids(self.view, ids)
     }
 }

@@ -32,13 +32,13 @@ is_step hints k s e = ap (λ o. option_map_or (λ j. j == k) o false) e ∙ eq-e
 last_step_is : (hints : List Hint) (k s n : ℕ) → s < n → node_told hints s ≡ Some k → node_told hints (last_step_of hints k n) ≡ Some k
 unfolding last_step_of
 last_step_is hints k s zero w e = absurd (omega (arith, w))
-last_step_is hints k s (suc n) w e = go (is_step_of hints k n) refl
+last_step_is hints k s (suc n) w e = go (is_step_of hints k n) refl (λ l. last_step_is hints k s n l e)
   where
-    go : (b : Bool) → is_step_of hints k n ≡ b → node_told hints (cond b n (last_step_of hints k n)) ≡ Some k
-    go true t = step_is (node_told hints n) k t
-    go false t = elim (cases_eq s n) [
+    go : (b : Bool) → is_step_of hints k n ≡ b → (s < n → node_told hints (last_step_of hints k n) ≡ Some k) → node_told hints (cond b n (last_step_of hints k n)) ≡ Some k
+    go true t rest = step_is (node_told hints n) k t
+    go false t rest = elim (cases_eq s n) [
       | inl same ↦ absurd (true≢false (sym (is_step hints k n (ap (node_told hints) (sym same) ∙ e)) ∙ t))
-      | inr other ↦ last_step_is hints k s n (omega (arith, w, other)) e
+      | inr other ↦ rest (omega (arith, w, other))
     ]
 
 told_within : (hints : List Hint) (k s : ℕ) → node_told hints s ≡ Some k → s < length hints * 64

@@ -1,14 +1,20 @@
 //! Hints tell where the object with an id stands among objects whose ids rise.
-ghost use Rattle.std.specs.Prelude.{◌≡◌, ◌<◌, Some, IsTrue};
+ghost use Rattle.std.specs.Prelude.{◌≡◌, ◌<◌, ◌≤◌, List, length, Some, IsTrue, IfErr, OnOk};
+ghost use Rattle.heap_class.specs.declared.Refusal.TheVariants.{NoMemory};
 ghost use Rattle.heap_questions.specs.declared.nodes.Node.{Node};
-ghost use Rattle.heap_questions.specs.Search.{node_with};
+ghost use Rattle.heap_questions.specs.Search.{hint_limit, node_with};
 ghost use Rattle.heap_questions.specs.Hints.{AreTold, id_after, id_steps, node_told, node_told_by};
+
+use heap_class::Refusal;
 
 // The ids of two objects of a heap differ by a multiple of 8.
 const ID_STEP: u64 = 8;
 
 // The steps of a hint: one for each bit of a word.
 pub(crate) const HINT_STEPS: u64 = 64;
+
+// The most hints: one for each 64 words of a heap, which has at most 1,024 in each of 65,536 regions, and one more.
+const HINT_LIMIT: u64 = 1_048_577;
 
 // Where nodes stand at 64 steps, of nodes whose ids rise: the number of nodes before these, and for each step whether one stands
 // there, as bits.
@@ -78,8 +84,27 @@ pub(crate) fn is_told(hints: &[Hint], steps: u64, node: usize) -> bool
     }
 }
 
+// Adds a node that stands this many steps from the first, with empty hints before it where none are yet. Leaves it out if that is
+// further than the words of a heap reach. Fails with NoMemory.
+pub(crate) fn add_hint(hints: &mut Vec<Hint>, steps: u64, node: u32) -> Result<(), Refusal>
+    requires { length hints.old.items ≤ hint_limit }
+    ensures few { OnOk result (length hints.new.items ≤ hint_limit) }
+    ensures refused { IfErr result (λ e. e ≡ NoMemory) }
+{
+    let place = steps / HINT_STEPS;
+    if place >= HINT_LIMIT {
+        return Ok(());
+    }
+    let place = place as usize;
+    for _count in hints.len()..place + 1 {
+        hints.push(Hint { before: 0, bits: 0 })?;
+    }
+    hints[place] = hint_with(hints[place], node, (steps % HINT_STEPS) as u32);
+    Ok(())
+}
+
 // Adds a node that stands at one of the steps of a hint.
-pub(crate) fn hint_with(hint: Hint, node: u32, step: u32) -> Hint
+fn hint_with(hint: Hint, node: u32, step: u32) -> Hint
     requires { step < 64 }
 {
     let before = if hint.bits == 0 { node } else { hint.before };

@@ -1,21 +1,17 @@
 //! The objects of a view by their places, if hints tell their ids.
-ghost use Rattle.std.specs.Prelude.{◌≡◌, ◌<◌, ◌≤◌, ◌+◌, ◌*◌, length, Some, IsTrue, IfSome, IfOk, IfErr, slice_get};
+ghost use Rattle.std.specs.Prelude.{◌≡◌, ◌<◌, ◌≤◌, ◌+◌, ◌*◌, length, Some, IsTrue, IfSome, IfOk, IfErr, OnOk, slice_get};
 ghost use Rattle.heap_class.specs.declared.Refusal.TheVariants.{NoMemory};
-ghost use Rattle.hprof_text.specs.Image.{object_limit};
 ghost use Rattle.heap_questions.specs.declared.nodes.Node.{Node};
 ghost use Rattle.heap_questions.specs.Search.{AreNodes, hint_limit, node_with};
 ghost use Rattle.heap_questions.specs.Hints.{AreTold, AreToldTo, IsToldAt};
 ghost use Rattle.heap_questions.specs.ToldNodes.{HoldsOfNodes};
 
-use crate::hints::{HINT_STEPS, Hint, hint_with, id_after, id_steps, is_told, told_with};
+use crate::hints::{HINT_STEPS, Hint, add_hint, id_after, id_steps, is_told, told_with};
 use heap_class::{ObjRef, Refusal};
 use hprof_text::View;
 use std::alloc::Global;
 use std::marker::Model;
 use std::mem::size_of;
-
-// The number of words of a heap: 1,024 for each of 65,536 regions.
-const HEAP_WORDS: u64 = 67_108_864;
 
 // There is one for each object of a view.
 const _: () = prove!(size_of::<ObjRef>() <= 4);
@@ -53,9 +49,9 @@ impl ToldNodes {
     {
         // Its contract says that there is a place for each object.
         let _classes = view.classes();
-        let places = places_of(alloc, view)?;
-        let first = first_id(view, places.as_slice());
-        let hints = hints_of(alloc, view, places.as_slice(), first)?;
+        let first = first_id(view);
+        let mut hints = Vec::new(alloc);
+        let places = places_of(alloc, view, first, &mut hints)?;
         if are_told(view, places.as_slice(), first, hints.as_slice()) {
             Ok(Some(ToldNodes {
                 places,
@@ -92,10 +88,25 @@ impl ToldNodes {
     }
 }
 
-// Returns the places of the objects of a view, in order. Fails with NoMemory.
-fn places_of<V: View>(alloc: Global, view: &V) -> Result<Vec<ObjRef>, Refusal>
+// Returns the id of the first object of a view, or 0 if there is none.
+fn first_id<V: View>(view: &V) -> u64 {
+    match view.first() {
+        Some(at) => view.id(at),
+        None => 0,
+    }
+}
+
+// Returns the places of the objects of a view, in order, and adds hints of their ids, the first of which this is. Fails with
+// NoMemory.
+fn places_of<V: View>(
+    alloc: Global,
+    view: &V,
+    first: u64,
+    hints: &mut Vec<Hint>,
+) -> Result<Vec<ObjRef>, Refusal>
+    requires { length hints.old.items ≤ hint_limit }
     ensures places { IfOk result (λ all. all.items ≡ V.places view.now) }
-    ensures few { IfOk result (λ all. length all.items ≤ object_limit) }
+    ensures few { OnOk result (length hints.new.items ≤ hint_limit) }
     ensures refused { IfErr result (λ e. e ≡ NoMemory) }
 {
     // Its contract says that what the view shows is within the limits of a dump.
@@ -103,69 +114,12 @@ fn places_of<V: View>(alloc: Global, view: &V) -> Result<Vec<ObjRef>, Refusal>
     let mut all = Vec::new(alloc);
     let mut here = view.first();
     while let Some(at) = here {
+        let steps = id_steps(first, view.id(at));
+        add_hint(hints, steps, all.len() as u32)?;
         all.push(at)?;
         here = view.next(at);
     }
     Ok(all)
-}
-
-// Returns the id of the object at one of a view's places, which these are.
-pub(crate) fn id_at<V: View>(view: &V, places: &[ObjRef], node: usize) -> u64
-    requires places { places.now ≡ V.places view.now }
-    requires node { node < length places.now }
-    ensures { HoldsOfNodes (V.image view.now) (V.places view.now)
-        (λ nodes. (n : Node) → slice_get nodes node ≡ Some n → result ≡ n.id) }
-{
-    view.id(places[node])
-}
-
-// Returns the id of the first object of a view, whose places these are, or 0 if there is none.
-fn first_id<V: View>(view: &V, places: &[ObjRef]) -> u64
-    requires { places.now ≡ V.places view.now }
-{
-    if places.is_empty() {
-        0
-    } else {
-        id_at(view, places, 0)
-    }
-}
-
-// Returns hints of the objects of a view, whose places these are, the first of which has this id. Fails with NoMemory.
-fn hints_of<V: View>(
-    alloc: Global,
-    view: &V,
-    places: &[ObjRef],
-    first: u64,
-) -> Result<Vec<Hint>, Refusal>
-    requires places { places.now ≡ V.places view.now }
-    requires few { length places.now ≤ object_limit }
-    ensures few { IfOk result (λ hs. length hs.items ≤ hint_limit) }
-    ensures refused { IfErr result (λ e. e ≡ NoMemory) }
-{
-    let none = Hint { before: 0, bits: 0 };
-    let mut hints = vec![in alloc; none; hint_count(view, places, first)]?;
-    for node in 0..places.len() {
-        let steps = id_steps(first, id_at(view, places, node));
-        let place = steps / HINT_STEPS;
-        if place < hints.len() as u64 {
-            let hint = hints[place as usize];
-            hints[place as usize] = hint_with(hint, node as u32, (steps % HINT_STEPS) as u32);
-        }
-    }
-    Ok(hints)
-}
-
-// Returns how many hints there have to be: one for each 64 steps from the first id to the last, but not for more than a heap has
-// words.
-fn hint_count<V: View>(view: &V, places: &[ObjRef], first: u64) -> usize
-    requires { places.now ≡ V.places view.now }
-    ensures { result ≤ hint_limit }
-{
-    if places.is_empty() {
-        return 0;
-    }
-    let steps = id_steps(first, id_at(view, places, places.len() - 1)).min(HEAP_WORDS);
-    (steps / HINT_STEPS) as usize + 1
 }
 
 // Tells whether the hints tell where each object of a view stands, whose places these are, and nothing else.
@@ -240,4 +194,14 @@ fn is_told_at<V: View>(
     }
     let id = id_at(view, places, node);
     id_steps(first, id) == steps && id_after(first, steps) == id && is_told(hints, steps, node)
+}
+
+// Returns the id of the object at one of a view's places, which these are.
+fn id_at<V: View>(view: &V, places: &[ObjRef], node: usize) -> u64
+    requires places { places.now ≡ V.places view.now }
+    requires node { node < length places.now }
+    ensures { HoldsOfNodes (V.image view.now) (V.places view.now)
+        (λ nodes. (n : Node) → slice_get nodes node ≡ Some n → result ≡ n.id) }
+{
+    view.id(places[node])
 }

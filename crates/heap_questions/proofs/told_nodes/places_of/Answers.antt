@@ -1,7 +1,7 @@
 use Rattle.std.proofs.Common.{length, sym, ap, ◌∙◌, arith}
 use Rattle.std.specs.Prelude.{slice_get}
 use Rattle.std.proofs.lemmas.List.{length_push, take_all}
-use Rattle.hprof_text.proofs.ViewedObjects.{number_after_place_within, no_next_place_is_past_all}
+use Rattle.hprof_text.proofs.ViewedObjects.{is_there, number_after_place_within, no_next_place_is_past_all}
 use Rattle.heap_questions.proofs.ToldPlaces.{kept_places_with_next}
 use Rattle.heap_questions.proofs.told_nodes.places_of.Goals as goal
 
@@ -19,7 +19,11 @@ loop-here-preserved g c =
       here = c.next-here.ensures i e ∙ ap (slice_get places) (sym n);
       places = kept_places_with_next places old new at e c.loop-here.invariant.places c.in_ok-push.ensures.items;
       passed = omega (arith, n, w);
+      few = c.in_ok-add_hint.ensures.few;
     }
+
+pub id-requires : goal.id-requires
+id-requires g c = is_there (g.V.View.places c.args.view.now) (length c.loop-here.all.items) c.in-Some.at (sym c.loop-here.invariant.here ∙ c.in-Some.is)
 
 pub returns-clause-places : goal.returns-clause-places
 returns-clause-places g c =

@@ -44,8 +44,7 @@ fn reached_marks<V: View>(
 {
     let mut marks = Vec::with_capacity(alloc, nodes.len())?;
     for node in 0..nodes.len() {
-        let id = nodes.id(view, node);
-        marks.push(is_reached(nodes, seen, id))?;
+        marks.push(nodes.is_seen(view, seen, node))?;
     }
     Ok(marks)
 }

@@ -2,8 +2,9 @@
 ghost use Rattle.std.specs.Prelude.{◌≡◌, ◌<◌, ◌≤◌, ◌++◌, length, map, Some, IsTrue, IfOk, IfErr, OnOk, slice_get};
 ghost use Rattle.heap_class.specs.declared.Refusal.TheVariants.{NoMemory};
 ghost use Rattle.heap_questions.specs.declared.nodes.Node.{Node};
-ghost use Rattle.heap_questions.specs.Search.{AreSmallerBefore, AreFrom, AreNodes, AreRising, node_with};
+ghost use Rattle.heap_questions.specs.Search.{AreSmallerBefore, AreFrom, AreNodes, AreRising, is_found, node_with};
 
+use crate::search::is_found;
 use crate::told_nodes::ToldNodes;
 use heap_class::{ObjRef, Refusal};
 use hprof_text::View;
@@ -211,6 +212,19 @@ impl NodeList {
         ensures { (n : Node) → slice_get self.now node ≡ Some n → result ≡ n.id }
     {
         view.id(self.place(node))
+    }
+
+    // Tells whether the node with the id of this node was found. The nodes must be the view's.
+    pub(crate) fn is_seen<V: View>(&self, view: &V, seen: &[bool], node: usize) -> bool
+        requires nodes { AreNodes (V.image view.now) (V.places view.now) self.now }
+        requires node { node < length self.now }
+        ensures { (n : Node) → slice_get self.now node ≡ Some n
+            → result ≡ is_found seen.now (node_with self.now n.id) }
+    {
+        match &self.kept {
+            KeptNodes::Places(nodes) => nodes.is_seen(seen, node),
+            KeptNodes::Whole(_) => is_found(seen, self.find(self.id(view, node))),
+        }
     }
 
     // Adds the ids of the nodes, in order. The nodes must be the view's. Fails if an allocation fails.

@@ -5,7 +5,6 @@ ghost use Rattle.heap_questions.specs.Garbage.{is_reached};
 ghost use Rattle.heap_questions.specs.ObjectLists.{AreObjectsWanted, IsObjectList, listed_object, objects_wanted};
 ghost use Rattle.heap_questions.specs.Search.{AreNodes};
 
-use crate::garbage::is_reached;
 use crate::nodes::NodeList;
 use crate::search::all_seen;
 use crate::wanted::{Wanted, is_wanted};
@@ -58,7 +57,7 @@ fn list_nodes<V: View>(
         let id = nodes.id(view, node);
         let kind = view.kind(at);
         let words = view.words(at);
-        let reached = is_reached(nodes, seen, id);
+        let reached = nodes.is_seen(view, seen, node);
         let listed = ListedObject {
             id,
             kind,

@@ -2,11 +2,12 @@
 ghost use Rattle.std.specs.Prelude.{◌≡◌, ◌<◌, ◌≤◌, ◌+◌, ◌*◌, length, Some, IsTrue, IfSome, IfOk, IfErr, OnOk, slice_get};
 ghost use Rattle.heap_class.specs.declared.Refusal.TheVariants.{NoMemory};
 ghost use Rattle.heap_questions.specs.declared.nodes.Node.{Node};
-ghost use Rattle.heap_questions.specs.Search.{AreNodes, hint_limit, node_with};
+ghost use Rattle.heap_questions.specs.Search.{AreNodes, hint_limit, is_found, node_with};
 ghost use Rattle.heap_questions.specs.Hints.{AreTold, AreToldTo, IsToldAt};
 ghost use Rattle.heap_questions.specs.ToldNodes.{HoldsOfNodes};
 
 use crate::hints::{HINT_STEPS, Hint, add_hint, id_after, id_steps, is_told, told_with};
+use crate::search::is_found;
 use heap_class::{ObjRef, Refusal};
 use hprof_text::View;
 use std::alloc::Global;
@@ -76,6 +77,18 @@ impl ToldNodes {
         ensures { result ≡ node_with self.now id }
     {
         told_with(self.hints.as_slice(), self.first, id)
+    }
+
+    // Tells whether the object with the id of this one was found: it is the same one.
+    #[tactic(auto, using(crate::proofs::ToldNodes::found_as_told))]
+    pub(crate) fn is_seen(&self, seen: &[bool], node: usize) -> bool
+        requires { node < length self.now }
+        ensures { (n : Node) → slice_get self.now node ≡ Some n
+            → result ≡ is_found seen.now (node_with self.now n.id) }
+    {
+        // They tell where each object stands, so that no two have the same id.
+        let _hints = &self.hints;
+        is_found(seen, Some(node))
     }
 
     // Returns the place of an object.

@@ -12,10 +12,9 @@ loop-node-preserved g c =
     let f : Node → Bool = λ n. is_reached nodes c.args.seen.now n.id in
     let i = c.loop-node.node in
     let n = item_of_list_within nodes i (omega arith) in
-    let x = c.id-id.ensures n.0 n.1 in
     c.in_ok-push.ensures.items
-    ∙ ap (λ (bs : List Bool). bs ++ c.is_reached.result ∷ []) c.loop-node.invariant
-    ∙ ap (λ b. map f (take i nodes) ++ b ∷ []) (c.is_reached.ensures ∙ ap (is_reached nodes c.args.seen.now) x ∙ ap f (sym (get_or_from_slice_get nodes i n.0 n.0 n.1)))
+    ∙ ap (λ (bs : List Bool). bs ++ c.is_seen.result ∷ []) c.loop-node.invariant
+    ∙ ap (λ b. map f (take i nodes) ++ b ∷ []) (c.is_seen.ensures n.0 n.1 ∙ ap f (sym (get_or_from_slice_get nodes i n.0 n.0 n.1)))
     ∙ sym (map_more f nodes i n.0 (omega arith))
 
 pub returns-clause-marks : goal.returns-clause-marks

@@ -8,6 +8,7 @@ pub mod Looking
 pub mod OtherRegisters
 pub mod Halving
 pub mod ToldNodes
+pub mod ToldPlaces
 pub mod Reaching
 pub mod CutObjects
 pub mod CutPaths

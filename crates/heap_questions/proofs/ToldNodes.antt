@@ -1,5 +1,5 @@
 -- What hints tell is where a node stands.
-use Rattle.std.proofs.Common.{◌≡◌, ◌≢◌, ℕ, ◌+◌, ◌-◌, ◌*◌, ◌/◌, ◌%◌, ◌^◌, w64, ◌<◌, ◌≤◌, cond, List, length, get_or, refl, sym, ap, ◌∙◌, inl, inr, arith}
+use Rattle.std.proofs.Common.{◌≡◌, ◌≢◌, ℕ, Bool, ◌+◌, ◌-◌, ◌*◌, ◌/◌, ◌%◌, ◌^◌, w64, ◌<◌, ◌≤◌, cond, List, length, get_or, refl, sym, ap, ◌∙◌, inl, inr, arith}
 use Rattle.std.specs.Prelude.{slice_get, Option, Some, None, option_and_then, ◌==◌, bit_and, count_ones}
 use Rattle.std.specs.List.{position_or_len}
 use Rattle.std.proofs.lemmas.Option.{none-some, same_Some, slice_get_within, slice_get_past, slice_get-get_or, get_or_from_slice_get}
@@ -10,16 +10,16 @@ use Rattle.std.proofs.lemmas.Nat.Bits.{bit_at-trailing_zeros}
 use Rattle.std.specs.Int.{bit_at, trailing_zeros}
 use Rattle.std.proofs.Math.Nat.{zero-div, div-eq_of_lt}
 use Rattle.std.proofs.Math.Pow.{pow_mono}
-use Rattle.heap_questions.specs.Search.{node_with}
+use Rattle.heap_questions.specs.Search.{is_found, node_with}
 use Rattle.heap_questions.specs.Hints.{AreTold, AreToldTo, IsToldAt, id_after, id_steps, node_told, node_told_by}
 use Rattle.heap_questions.specs.declared.nodes.Node.{Node}
-use Rattle.heap_questions.specs.declared.nodes.Hint.{Hint}
+use Rattle.heap_questions.specs.declared.hints.Hint.{Hint}
 use Rattle.heap_questions.proofs.LongerLists.{got_same}
 use Rattle.heap_questions.proofs.NodePlaces.{place_found}
 
 -- ---- all hints
 
-past_hints : (hints : List Hint) (s : ℕ) → length hints * 64 ≤ s → node_told hints s ≡ None
+pub past_hints : (hints : List Hint) (s : ℕ) → length hints * 64 ≤ s → node_told hints s ≡ None
 unfolding node_told
 past_hints hints s h = ap (option_and_then (λ (hint : Hint). node_told_by hint (s % 64))) (slice_get_past hints (s / 64) (omega (arith, h)))
 
@@ -146,3 +146,13 @@ none_between first hints nodes x h ne =
     let w = h.only (id_steps first x) k (told_there first hints nodes x k a h g e) in
     let same : w.0 ≡ a = got_same nodes k w.0 a w.1 g in
     ne (sym w.2 ∙ ap (λ (n : Node). n.id) same ∙ e))
+
+-- a node that hints tell is the first with its id
+with_its_id : (first : ℕ) (hints : List Hint) (nodes : List Node) (k : ℕ) (a : Node) → AreTold first hints nodes → slice_get nodes k ≡ Some a → Some k ≡ node_with nodes a.id
+with_its_id first hints nodes k a h g =
+    let here = told_there first hints nodes a.id k a h g refl in
+    only_node_with nodes a.id k a g refl (λ j b i e. same_Some j k (sym (told_there first hints nodes a.id j b h i e) ∙ here))
+
+-- so what was found of it was found of its id
+pub found_as_told : (first : ℕ) (hints : List Hint) (nodes : List Node) (seen : List Bool) (k : ℕ) (a : Node) (found : Bool) → AreTold first hints nodes → slice_get nodes k ≡ Some a → found ≡ is_found seen (Some k) → found ≡ is_found seen (node_with nodes a.id)
+found_as_told first hints nodes seen k a found h g e = e ∙ ap (is_found seen) (with_its_id first hints nodes k a h g)

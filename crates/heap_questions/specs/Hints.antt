@@ -1,7 +1,7 @@
 -- Hints tell where nodes stand: as bits, for each step of 8 from the first id on, and how many nodes stand before each 64 steps.
 use Rattle.std.specs.Prelude.{◌≡◌, ◌+◌, ◌-◌, ◌*◌, ◌/◌, ◌%◌, ◌^◌, ◌<◌, ◌==◌, ℕ, List, Option, Some, None, cond, length, slice_get, option_and_then, bit_and, count_ones}
 use Rattle.heap_questions.specs.declared.nodes.Node.{Node}
-use Rattle.heap_questions.specs.declared.nodes.Hint.{Hint}
+use Rattle.heap_questions.specs.declared.hints.Hint.{Hint}
 
 -- the number of steps from the first id to another, which wraps around if the other is smaller
 unfoldable pub id_steps : ℕ → ℕ → ℕ

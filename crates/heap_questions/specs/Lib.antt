@@ -29,3 +29,5 @@ pub mod PastTrails
 pub mod Differences
 pub mod FirstPlaces
 pub mod Hints
+pub mod ToldNodes
+pub mod NodeLists

@@ -7,7 +7,6 @@ ghost use Rattle.heap_questions.specs.Search.{AreNodes};
 
 use crate::distances::FAR;
 use crate::nodes::NodeList;
-use crate::objects::shown_with;
 use crate::references::is_reference_slot;
 use heap_class::{FirstClasses, Refusal};
 use hprof_text::{ShownObject, View};
@@ -83,11 +82,10 @@ fn add_references<V: View>(
     ensures refused { IfErr result (λ e. e ≡ NoMemory) }
 {
     let classes = view.classes();
-    if let Some(object) = shown_with(view, nodes, nodes.id(node)) {
-        for slot in 0..object.words().len() {
-            if let Some(id) = named_along(&classes, &object, slot) {
-                add_reference(nodes, node, id, back)?;
-            }
+    let object = view.object(nodes.place(node));
+    for slot in 0..object.words().len() {
+        if let Some(id) = named_along(&classes, &object, slot) {
+            add_reference(nodes, node, id, back)?;
         }
     }
     Ok(())

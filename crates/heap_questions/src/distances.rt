@@ -37,7 +37,7 @@ fn is_fit<V: View>(view: &V, nodes: &NodeList, table: &[u32], goal: u64, node: u
     ensures { IsTrue result
         → IsFitNode (V.image view.now) (distance_by nodes.now table.now) goal nodes.now node }
 {
-    let id = nodes.id(node);
+    let id = nodes.id(view, node);
     let distance = distance_at(nodes, table, id);
     if distance == FAR - 1 {
         return false;

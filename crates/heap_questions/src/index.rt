@@ -29,7 +29,7 @@ impl<'a, V: View> Model for ObjectIndex<'a, V> {
 }
 
 impl<'a, V: View> ObjectIndex<'a, V> {
-    /// Lists the objects of a view. Fails with NoMemory. Reads each object's id once.
+    /// Lists the objects of a view. Fails with NoMemory. Reads each object's id at most three times.
     pub fn new(alloc: Global, view: &'a V) -> Result<ObjectIndex<'a, V>, Refusal>
         ensures index { IfOk result (λ x. x ≡ V.image view.now) }
         ensures refused { IfErr result (λ e. e ≡ NoMemory) }
@@ -58,6 +58,6 @@ impl<'a, V: View> ObjectIndex<'a, V> {
         ensures { OnOk result (ids.new.items
             ≡ ids.old.items ++ map (λ o. o.id) self.now.objects) }
     {
-        self.nodes.add_ids(ids)
+        self.nodes.add_ids(self.view, ids)
     }
 }

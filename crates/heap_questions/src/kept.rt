@@ -2,11 +2,12 @@
 ghost use Rattle.std.specs.Prelude.{◌≡◌, map, not, IfOk, IfErr};
 ghost use Rattle.heap_class.specs.declared.Refusal.TheVariants.{NoMemory};
 ghost use Rattle.heap_questions.specs.Kept.{AreKept, is_kept};
+ghost use Rattle.heap_questions.specs.Search.{AreNodes};
 
 use crate::garbage::is_reached;
 use crate::nodes::NodeList;
 use crate::rows::{Histogram, count_unmarked};
-use crate::search::search;
+use crate::search::all_seen;
 use heap_class::Refusal;
 use hprof_text::View;
 use std::alloc::Global;
@@ -21,25 +22,27 @@ pub fn count_kept<V: View>(alloc: Global, older: &V, newer: &V) -> Result<Histog
 {
     let before = NodeList::new(alloc, older)?;
     let nodes = NodeList::new(alloc, newer)?;
-    let reach = search(alloc, newer, &nodes, None)?;
-    let marks = others(alloc, &before, &nodes, reach.seen.as_slice())?;
+    let seen = all_seen(alloc, newer, &nodes)?;
+    let marks = others(alloc, newer, &before, &nodes, seen.as_slice())?;
     count_unmarked(alloc, newer, marks.as_slice())
 }
 
-// Returns for each node whether it isn't such a node. Fails with NoMemory.
-fn others(
+// Returns for each node of the newer view whether it isn't such a node. The nodes must be that view's. Fails with NoMemory.
+fn others<V: View>(
     alloc: Global,
+    newer: &V,
     before: &NodeList,
     nodes: &NodeList,
     seen: &[bool],
 ) -> Result<Vec<bool>, Refusal>
+    requires { AreNodes (V.image newer.now) (V.places newer.now) nodes.now }
     ensures marks { IfOk result (λ marks. marks.items
         ≡ map (λ n. not (is_kept before.now nodes.now seen.now n.id)) nodes.now) }
     ensures refused { IfErr result (λ e. e ≡ NoMemory) }
 {
     let mut marks = Vec::with_capacity(alloc, nodes.len())?;
     for node in 0..nodes.len() {
-        let id = nodes.id(node);
+        let id = nodes.id(newer, node);
         marks.push(!is_kept(before, nodes, seen, id))?;
     }
     Ok(marks)

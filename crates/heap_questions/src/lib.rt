@@ -11,6 +11,7 @@ mod dominators;
 mod garbage;
 mod growth;
 mod held_values;
+mod hints;
 mod index;
 mod kept;
 mod nearest;
@@ -26,6 +27,7 @@ mod registers;
 mod rows;
 mod search;
 mod starts;
+mod told_nodes;
 mod wanted;
 mod ways;
 

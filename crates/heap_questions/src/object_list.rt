@@ -5,9 +5,8 @@ ghost use Rattle.heap_questions.specs.Garbage.{is_reached};
 ghost use Rattle.heap_questions.specs.ObjectLists.{AreObjectsWanted, IsObjectList, listed_object, objects_wanted};
 ghost use Rattle.heap_questions.specs.Search.{AreNodes};
 
-use crate::garbage::is_reached;
 use crate::nodes::NodeList;
-use crate::search::search;
+use crate::search::all_seen;
 use crate::wanted::{Wanted, is_wanted};
 use heap_class::{ObjKind, Refusal};
 use hprof_text::View;
@@ -33,8 +32,8 @@ pub fn list_wanted<V: View>(
     ensures refused { IfErr result (λ e. e ≡ NoMemory) }
 {
     let nodes = NodeList::new(alloc, view)?;
-    let reach = search(alloc, view, &nodes, None)?;
-    list_nodes(alloc, view, &nodes, reach.seen.as_slice(), wanted)
+    let seen = all_seen(alloc, view, &nodes)?;
+    list_nodes(alloc, view, &nodes, seen.as_slice(), wanted)
 }
 
 // Lists the objects of a view that are wanted. The nodes must be the view's, and those that a search found be marked. Fails with
@@ -55,10 +54,10 @@ fn list_nodes<V: View>(
     let mut all = Vec::new(alloc);
     for node in 0..nodes.len() {
         let at = nodes.place(node);
-        let id = nodes.id(node);
+        let id = nodes.id(view, node);
         let kind = view.kind(at);
         let words = view.words(at);
-        let reached = is_reached(nodes, seen, id);
+        let reached = nodes.is_seen(view, seen, node);
         let listed = ListedObject {
             id,
             kind,

@@ -140,12 +140,12 @@ pub(crate) fn way_back<V: View>(
     while here.from >= FIRST_PLACE {
         let parent = entry_at(queue, (here.from - FIRST_PLACE) as usize);
         let slot = naming_slot(view, nodes, parent.node as usize, here.node as usize);
-        let to = nodes.id(here.node as usize);
+        let to = nodes.id(view, here.node as usize);
         hops.push(Hop { slot, to })?;
         here = parent;
     }
     let register = here.from;
-    let start = nodes.id(here.node as usize);
+    let start = nodes.id(view, here.node as usize);
     Ok(WayBack {
         register,
         start,
@@ -164,7 +164,7 @@ fn naming_slot<V: View>(view: &V, nodes: &NodeList, node: usize, named: usize) -
     let classes = view.classes();
     let kind = view.kind(at);
     let words = view.words(at);
-    let id = nodes.id(named);
+    let id = nodes.id(view, named);
     first_slot_to(&classes, kind, words, id)
 }
 

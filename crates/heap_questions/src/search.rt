@@ -98,6 +98,21 @@ fn find_roots<V: View>(view: &V, nodes: &NodeList, reach: &mut Reach) -> Result<
     Ok(())
 }
 
+// Tells for each node whether registers reach its object. The nodes must be the view's. Fails with NoMemory. Keeps nothing else of
+// the search for them.
+pub(crate) fn all_seen<V: View>(
+    alloc: Global,
+    view: &V,
+    nodes: &NodeList,
+) -> Result<Vec<bool>, Refusal>
+    requires { AreNodes (V.image view.now) (V.places view.now) nodes.now }
+    ensures seen { IfOk result (λ seen. AreAllSeen (V.image view.now) nodes.now seen.items) }
+    ensures refused { IfErr result (λ e. e ≡ NoMemory) }
+{
+    let reach = search(alloc, view, nodes, None)?;
+    Ok(reach.seen)
+}
+
 // Goes on with a search that has begun, from whichever registers: until all is found, or a node that is the goal. Fails with
 // NoMemory. Reads each object at most twice.
 #[inline(never)]

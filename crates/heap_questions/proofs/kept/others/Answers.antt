@@ -8,7 +8,7 @@ use Rattle.heap_questions.specs.Kept.{is_kept}
 use Rattle.heap_questions.proofs.kept.others.Goals as goal
 
 pub loop-node-preserved : goal.loop-node-preserved
-loop-node-preserved c =
+loop-node-preserved g c =
     let nodes = c.args.nodes.now in
     let f : Node → Bool = λ n. not (is_kept c.args.before.now nodes c.args.seen.now n.id) in
     let i = c.loop-node.node in
@@ -20,4 +20,4 @@ loop-node-preserved c =
     ∙ sym (map_more f nodes i n.0 (omega arith))
 
 pub returns-clause-marks : goal.returns-clause-marks
-returns-clause-marks c = c.loop-node.invariant ∙ ap (map (λ (n : Node). not (is_kept c.args.before.now c.args.nodes.now c.args.seen.now n.id))) (take_all c.loop-node.node c.args.nodes.now (omega (arith, c.loop-node-test.false, c.len-node-end.ensures)))
+returns-clause-marks g c = c.loop-node.invariant ∙ ap (map (λ (n : Node). not (is_kept c.args.before.now c.args.nodes.now c.args.seen.now n.id))) (take_all c.loop-node.node c.args.nodes.now (omega (arith, c.loop-node-test.false, c.len-node-end.ensures)))

@@ -38,11 +38,12 @@ loop-node-preserved g c =
     let n = item_of_list_within nodes i (omega arith) in
     let o = item_of_list_within image.objects i (omega (arith, as_many image places nodes c.requires)) in
     let led : slice_get places i ≡ Some c.place-at.result = node_place image places nodes i n.0 c.requires n.1 ∙ ap Some (sym (c.place-at.ensures n.0 n.1)) in
-    let id : c.id-id.result ≡ o.0.id = c.id-id.ensures n.0 n.1 ∙ node_id image places nodes i n.0 o.0 c.requires n.1 o.1 in
+    let same : n.0.id ≡ o.0.id = node_id image places nodes i n.0 o.0 c.requires n.1 o.1 in
+    let id : c.id-id.result ≡ o.0.id = c.id-id.ensures n.0 n.1 ∙ same in
     let kind : c.kind-kind.result ≡ o.0.kind = said_of (λ (o : DumpedObject). c.kind-kind.result ≡ o.kind) (slice_get image.objects i) o.0 o.1 (c.kind-kind.ensures i led) in
     let words : c.words-words.result.now ≡ o.0.words = said_of (λ (o : DumpedObject). c.words-words.result.now ≡ o.words) (slice_get image.objects i) o.0 o.1 (c.words-words.ensures i led) in
-    let unreached : not c.is_reached-reached.result ≡ test o.0 = ap not (c.is_reached-reached.ensures ∙ ap (is_reached nodes seen) id) in
-    let is = listed_is test o.0 c.id-id.result c.kind-kind.result c.words-words.result.now (not c.is_reached-reached.result) id kind words unreached in
+    let unreached : not c.is_seen-reached.result ≡ test o.0 = ap not (c.is_seen-reached.ensures n.0 n.1 ∙ ap (is_reached nodes seen) same) in
+    let is = listed_is test o.0 c.id-id.result c.kind-kind.result c.words-words.result.now (not c.is_seen-reached.result) id kind words unreached in
     let wanted : c.is_wanted.result ≡ is_wanted c.args.wanted o.0.kind o.0.words = c.is_wanted.ensures ∙ (λ j. is_wanted c.args.wanted (kind j) (words j)) in
     listed_more test c.args.wanted image.objects i o.0 _ c.is_wanted.result c.loop-node.all.items c.push_wanted.new.all.items o.1 is wanted c.loop-node.invariant c.in_ok-push_wanted.ensures.added
 

@@ -43,8 +43,8 @@ naming_slot-slot-requires-clause-named g c =
     let v = c.loop-here.invariant registers q i in
     node_within c.args.nodes.now v.here.id c.loop-here.here.node (i.placed v.on.0 v.here v.on.1 ∙ ap (λ (e : Entry). Some e.node) v.kept)
 
-pub id-to-requires : goal.id-to-requires
-id-to-requires g c =
+pub id-to-requires-clause-node : goal.id-to-requires-clause-node
+id-to-requires-clause-node g c =
     let registers = c.requires.found.0 in
     let q = c.requires.found.1 in
     let i = c.requires.found.2 in
@@ -72,8 +72,8 @@ loop-here-preserved g c registers q i =
     (goes_on_back image nodes c.args.queue.now q c.args.index c.loop-here.here c.entry_at-parent.result c.loop-here.hops.items (record { slot = c.naming_slot-slot.result; to = c.id-to.result }) i v c.loop-here-test.true c.entry_at-parent.ensures
     (same_first_naming (g.V.View.image c.args.view.now) registers nodes c.entry_at-parent.result.node c.loop-here.here.node c.naming_slot-slot.result c.naming_slot-slot.ensures) to)
 
-pub id-start-requires : goal.id-start-requires
-id-start-requires g c =
+pub id-start-requires-clause-node : goal.id-start-requires-clause-node
+id-start-requires-clause-node g c =
     let registers = c.requires.found.0 in
     let q = c.requires.found.1 in
     let i = c.requires.found.2 in

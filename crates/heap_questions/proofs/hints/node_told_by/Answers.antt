@@ -3,7 +3,7 @@ use Rattle.std.specs.Prelude.{Some, None, bit_and, count_ones}
 use Rattle.std.proofs.lemmas.Bool.{eq-eqb, ne_eqb}
 use Rattle.std.proofs.lemmas.Nat.{one_shl}
 use Rattle.heap_questions.specs.Hints.{node_told_by}
-use Rattle.heap_questions.proofs.nodes.node_told_by.Goals as goal
+use Rattle.heap_questions.proofs.hints.node_told_by.Goals as goal
 
 pub returns-then-hint-step-eq0 : goal.returns-then-hint-step-eq0
 unfolding node_told_by

@@ -1,7 +1,7 @@
 use Rattle.std.proofs.Common.{◌≡◌, sym, ap, ◌∙◌}
 use Rattle.heap_questions.specs.Hints.{id_after, id_steps, node_told}
 use Rattle.heap_questions.proofs.ToldNodes.{told_is_with, none_between}
-use Rattle.heap_questions.proofs.nodes.told_with.Goals as goal
+use Rattle.heap_questions.proofs.hints.told_with.Goals as goal
 
 pub returns-then-id_after-id : goal.returns-then-id_after-id
 returns-then-id_after-id c nodes h =

@@ -2,8 +2,8 @@ use Rattle.std.proofs.Common.{◌/◌, ◌%◌, sym, ap, ◌∙◌}
 use Rattle.std.specs.Prelude.{option_and_then}
 use Rattle.std.proofs.lemmas.Option.{slice_get_past, slice_get-get_or}
 use Rattle.heap_questions.specs.Hints.{node_told, node_told_by}
-use Rattle.heap_questions.specs.declared.nodes.Hint.{Hint}
-use Rattle.heap_questions.proofs.nodes.node_told.Goals as goal
+use Rattle.heap_questions.specs.declared.hints.Hint.{Hint}
+use Rattle.heap_questions.proofs.hints.node_told.Goals as goal
 
 pub returns-then-place-hints : goal.returns-then-place-hints
 unfolding node_told

@@ -1,5 +1,0 @@
-use Rattle.std.proofs.Common.{◌≡◌, ◌++◌, map, take}
-use Rattle.heap_questions.proofs.nodes.add_ids.Given as goal
-
-abbrev pub invariant-loop-node : goal.invariant-loop-node
-invariant-loop-node l = l.ids.items ≡ l.fn.ids.items ++ map (λ n. n.id) (take l.node-index l.nodes)

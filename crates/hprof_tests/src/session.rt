@@ -202,24 +202,20 @@ fn has_array_class(alloc: Global, classes: &mut Classes, name: &[u8]) -> bool {
     }
 }
 
-// Returns the static fields of the class that has an object for them.
+// Returns the static fields of the class that has an object for them, in a list.
 fn statics(alloc: Global) -> Option<Vec<Statics<'static>>> {
+    let own = own_statics(alloc)?;
     let mut statics = Vec::new(alloc);
-    if has_statics(alloc, &mut statics) {
-        Some(statics)
-    } else {
-        None
-    }
+    statics.push(own).ok()?;
+    Some(statics)
 }
 
-// Adds the static fields. Returns whether that was done.
-fn has_statics(alloc: Global, statics: &mut Vec<Statics<'static>>) -> bool {
+// Returns the static fields of that class.
+fn own_statics(alloc: Global) -> Option<Statics<'static>> {
     let mut fields = Vec::new(alloc);
     let (name, kind, value) = (0, Kind::Object, b"\0\0\0\x32".as_slice());
-    if fields.push(StaticField { name, kind, value }).is_err() {
-        return false;
-    }
-    statics.push(Statics { id: 0x10, fields }).is_ok()
+    fields.push(StaticField { name, kind, value }).ok()?;
+    Some(Statics { id: 0x10, fields })
 }
 
 // Returns whether the session of the dump is put out by this plan.

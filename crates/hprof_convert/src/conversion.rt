@@ -1,6 +1,9 @@
 //! The session of a dump.
 ghost use Rattle.hprof_session.specs.Walks.{left};
 ghost use Rattle.std.specs.Prelude.{◌≡◌};
+ghost use Rattle.heap_class.specs.Limits.{widest_classes};
+ghost use Rattle.hprof_plan.specs.Finds.{Finds};
+ghost use Rattle.hprof_plan.specs.Plans.{IsPlan};
 ghost use Rattle.hprof_convert.specs.Conversions.{IsConversion, IsConverted, elements_with};
 
 use dump_pump::Outlet;
@@ -97,15 +100,49 @@ fn convert_walk<O: Outlet>(
     ensures { IsConversion area (left walk.entry) (O.seen outlet.old) (O.seen outlet.new) result }
 {
     let found = find(alloc, walk)?;
-    let plan = plan_classes(alloc, WIDEST_CLASSES, elements_with(area), &found)?;
+    convert_found(alloc, outlet, area, walk, size, &found)
+}
+
+// Puts out the session of what a walk comes to, in which this was found, and counts what is left out. The dump has `size` bytes.
+fn convert_found<O: Outlet>(
+    alloc: Global,
+    outlet: &mut O,
+    area: bool,
+    walk: Walk<'_>,
+    size: u64,
+    found: &Found<'_>,
+) -> Result<Converted, Failure>
+    requires { Finds (left walk) found.now }
+    ensures { IsConversion area (left walk.entry) (O.seen outlet.old) (O.seen outlet.new) result }
+{
+    let plan = plan_classes(alloc, WIDEST_CLASSES, elements_with(area), found)?;
+    convert_planned(alloc, outlet, area, walk, size, found, &plan)
+}
+
+// Puts out the session of what a walk comes to, by the plan of its classes, and counts what is left out. The dump has `size` bytes.
+fn convert_planned<O: Outlet>(
+    alloc: Global,
+    outlet: &mut O,
+    area: bool,
+    walk: Walk<'_>,
+    size: u64,
+    found: &Found<'_>,
+    plan: &Plan<'_>,
+) -> Result<Converted, Failure>
+    requires found { Finds (left walk) found.now }
+    requires plan { IsPlan widest_classes (elements_with area) found.now plan.now }
+    ensures { IsConversion area (left walk.entry) (O.seen outlet.old) (O.seen outlet.new) result }
+{
+    // Only the contract uses it.
+    let _area = area;
     // Its contract bounds the number of classes.
     let _number = plan.classes.len();
     let roots = found.roots.as_slice();
-    if !write_session(alloc, outlet, walk, &plan, &found.objects, roots)? {
+    if !write_session(alloc, outlet, walk, plan, &found.objects, roots)? {
         return Err(Failure::Write);
     }
-    let left = count_left_out(alloc, walk, &plan, &found.objects, roots)?;
-    Ok(left_out_of(&found, &plan, left, size))
+    let left = count_left_out(alloc, walk, plan, &found.objects, roots)?;
+    Ok(left_out_of(found, plan, left, size))
 }
 
 /// Returns the most elements of an array in a heap with an area, or without one.

@@ -75,14 +75,167 @@ clear 0 5
 clear 0 6
 ";
 
+// The ids of the objects.
+const IDS: &[u64] = &[0x31, 0x32, 0x33];
+
 #[test]
 fn session_of_a_small_dump(rt: HostRuntime) -> Result<(), Fail> {
-    let alloc = rt.alloc();
-    let plan = plan(alloc)?;
-    let mut objects = IdTable::new(alloc);
-    for id in [0x31, 0x32, 0x33] {
-        objects.insert(id).ok().ok_or("memory")?;
+    assert!(rt; is_planned_session(rt.alloc()));
+    Ok(())
+}
+
+// Returns whether the session of the dump is put out by its plan.
+fn is_planned_session(alloc: Global) -> bool {
+    match plan(alloc) {
+        Some(plan) => is_session_by(alloc, &plan),
+        None => false,
     }
+}
+
+// Returns the plan of the session.
+fn plan(alloc: Global) -> Option<Plan<'static>> {
+    let classes = classes(alloc)?;
+    let kinds = kinds(alloc)?;
+    let statics = statics(alloc)?;
+    Some(Plan {
+        classes,
+        lines: Lines::new(alloc),
+        kinds,
+        statics,
+        roots: 3,
+        elements: 1024,
+    })
+}
+
+// Returns the classes of the session.
+fn classes(alloc: Global) -> Option<Classes> {
+    let mut classes = Classes::new(alloc);
+    if has_classes(alloc, &mut classes) {
+        Some(classes)
+    } else {
+        None
+    }
+}
+
+// Defines the classes of the session. Returns whether that was done.
+fn has_classes(alloc: Global, classes: &mut Classes) -> bool {
+    let node = [Kind::Object, Kind::Int, Kind::Boolean];
+    has_class(alloc, classes, b"Node", &node)
+        && has_array_class(alloc, classes, b"[Node")
+        && has_class(alloc, classes, b"Node.static", &[Kind::Object])
+}
+
+// Defines an instance class with fields of these kinds. Returns whether that was done.
+fn has_class(alloc: Global, classes: &mut Classes, name: &[u8], kinds: &[Kind]) -> bool {
+    match fields(alloc, kinds) {
+        Some(fields) => is_defined(alloc, classes, name, &Fields::from_vec(fields)),
+        None => false,
+    }
+}
+
+// Returns fields of these kinds, each with a letter as its name.
+fn fields(alloc: Global, kinds: &[Kind]) -> Option<Vec<Field>> {
+    let mut fields = Vec::new(alloc);
+    if has_fields(alloc, &mut fields, kinds) {
+        Some(fields)
+    } else {
+        None
+    }
+}
+
+// Adds such fields. Returns whether that was done.
+fn has_fields(alloc: Global, fields: &mut Vec<Field>, kinds: &[Kind]) -> bool {
+    for (i, kind) in kinds.iter().enumerate() {
+        let letter = [b'a' + (i % 8) as u8];
+        if !has_field(alloc, fields, &letter, *kind) {
+            return false;
+        }
+    }
+    true
+}
+
+// Adds a field. Returns whether that was done.
+fn has_field(alloc: Global, fields: &mut Vec<Field>, name: &[u8], kind: Kind) -> bool {
+    match Name::new(alloc, name) {
+        Ok(name) => fields.push(Field { name, kind }).is_ok(),
+        Err(_) => false,
+    }
+}
+
+// Returns the kinds of the own fields of the dump's classes, by their ids.
+fn kinds(alloc: Global) -> Option<IndexMap<u64, Vec<Kind>>> {
+    let mut kinds = IndexMap::new(alloc);
+    let node = [Kind::Object, Kind::Int, Kind::Boolean];
+    if has_kinds(alloc, &mut kinds, 0x10, &node) && has_kinds(alloc, &mut kinds, 0x20, &[]) {
+        Some(kinds)
+    } else {
+        None
+    }
+}
+
+// Adds the kinds of the own fields of a class. Returns whether that was done.
+fn has_kinds(alloc: Global, kinds: &mut IndexMap<u64, Vec<Kind>>, id: u64, own: &[Kind]) -> bool {
+    match own.to_vec(alloc) {
+        Ok(own) => kinds.insert(id, own).is_ok(),
+        Err(_) => false,
+    }
+}
+
+// Defines an instance class with these fields. Returns whether that was done.
+fn is_defined(alloc: Global, classes: &mut Classes, name: &[u8], fields: &Fields) -> bool {
+    match Name::new(alloc, name) {
+        Ok(name) => {
+            let (name, sup) = (&name, None);
+            classes
+                .define(WIDEST_CLASSES, NewClass { name, sup, fields })
+                .is_ok()
+        }
+        Err(_) => false,
+    }
+}
+
+// Defines an array class. Returns whether that was done.
+fn has_array_class(alloc: Global, classes: &mut Classes, name: &[u8]) -> bool {
+    match Name::new(alloc, name) {
+        Ok(name) => classes.define_array(WIDEST_CLASSES, &name).is_ok(),
+        Err(_) => false,
+    }
+}
+
+// Returns the static fields of the class that has an object for them, in a list.
+fn statics(alloc: Global) -> Option<Vec<Statics<'static>>> {
+    let own = own_statics(alloc)?;
+    let mut statics = Vec::new(alloc);
+    statics.push(own).ok()?;
+    Some(statics)
+}
+
+// Returns the static fields of that class.
+fn own_statics(alloc: Global) -> Option<Statics<'static>> {
+    let mut fields = Vec::new(alloc);
+    let (name, kind, value) = (0, Kind::Object, b"\0\0\0\x32".as_slice());
+    fields.push(StaticField { name, kind, value }).ok()?;
+    Some(Statics { id: 0x10, fields })
+}
+
+// Returns whether the session of the dump is put out by this plan.
+fn is_session_by(alloc: Global, plan: &Plan<'_>) -> bool {
+    let mut objects = IdTable::new(alloc);
+    has_ids(&mut objects) && is_session_of(alloc, plan, &objects)
+}
+
+// Adds the ids. Returns whether that was done.
+fn has_ids(objects: &mut IdTable) -> bool {
+    for id in IDS {
+        if objects.insert(*id).is_err() {
+            return false;
+        }
+    }
+    true
+}
+
+// Returns whether exactly the session is put out by this plan and these ids, with nothing left out.
+fn is_session_of(alloc: Global, plan: &Plan<'_>, objects: &IdTable) -> bool {
     let roots = [
         RootFound {
             tag: 0xff,
@@ -98,95 +251,20 @@ fn session_of_a_small_dump(rt: HostRuntime) -> Result<(), Fail> {
         segment: &[],
         rest: DUMP,
     };
-    let mut outlet = WriteOutlet::new(Vec::new(alloc));
     if plan.kinds.len() as u64 > plan.classes.len() || plan.roots > 3 {
-        return Err("a plan".into());
+        return false;
     }
-    let is_out = write_session(alloc, &mut outlet, walk, &plan, &objects, &roots);
-    assert_eq!(rt; is_out.ok(), Some(true));
-    assert_eq!(rt; outlet.into_writer().as_slice(), SESSION);
-    let left = count_left_out(alloc, walk, &plan, &objects, &roots)
-        .ok()
-        .ok_or("memory")?;
+    let mut outlet = WriteOutlet::new(Vec::new(alloc));
+    let is_out = write_session(alloc, &mut outlet, walk, plan, objects, &roots);
+    let text = outlet.into_writer();
+    let left = count_left_out(alloc, walk, plan, objects, &roots);
     let (arrays, objects, references, roots, fields) = (0, 0, 0, 0, 0);
-    assert_eq!(rt;
-        left,
-        LeftOut {
-            arrays,
-            objects,
-            references,
-            roots,
-            fields
-        }
-    );
-    Ok(())
-}
-
-// Returns the plan of the session.
-fn plan(alloc: Global) -> Result<Plan<'static>, Fail> {
-    let node = vec![in alloc; Kind::Object, Kind::Int, Kind::Boolean]
-        .ok()
-        .ok_or("memory")?;
-    let mut kinds = IndexMap::new(alloc);
-    kinds.insert(0x10, node).ok().ok_or("memory")?;
-    kinds.insert(0x20, Vec::new(alloc)).ok().ok_or("memory")?;
-    let mut fields = Vec::new(alloc);
-    let (name, kind, value) = (0, Kind::Object, b"\0\0\0\x32".as_slice());
-    fields
-        .push(StaticField { name, kind, value })
-        .ok()
-        .ok_or("memory")?;
-    let mut statics = Vec::new(alloc);
-    statics
-        .push(Statics { id: 0x10, fields })
-        .ok()
-        .ok_or("memory")?;
-    Ok(Plan {
-        classes: classes(alloc)?,
-        lines: Lines::new(alloc),
-        kinds,
-        statics,
-        roots: 3,
-        elements: 1024,
-    })
-}
-
-// Returns the classes of the session.
-fn classes(alloc: Global) -> Result<Classes, Fail> {
-    let mut classes = Classes::new(alloc);
-    define(
-        alloc,
-        &mut classes,
-        b"Node",
-        &[Kind::Object, Kind::Int, Kind::Boolean],
-    )?;
-    let array = Name::new(alloc, b"[Node").ok().ok_or("memory")?;
-    classes
-        .define_array(WIDEST_CLASSES, &array)
-        .ok()
-        .ok_or("a class")?;
-    define(alloc, &mut classes, b"Node.static", &[Kind::Object])?;
-    Ok(classes)
-}
-
-// Defines an instance class with fields of these kinds.
-fn define(alloc: Global, classes: &mut Classes, name: &[u8], kinds: &[Kind]) -> Result<(), Fail> {
-    let mut fields = Vec::new(alloc);
-    for (i, kind) in kinds.iter().enumerate() {
-        let letter = [b'a' + (i % 8) as u8];
-        let name = Name::new(alloc, &letter).ok().ok_or("memory")?;
-        fields
-            .push(Field { name, kind: *kind })
-            .ok()
-            .ok_or("memory")?;
-    }
-    let name = Name::new(alloc, name).ok().ok_or("memory")?;
-    let fields = Fields::from_vec(fields);
-    let class = NewClass {
-        name: &name,
-        sup: None,
-        fields: &fields,
+    let nothing = LeftOut {
+        arrays,
+        objects,
+        references,
+        roots,
+        fields,
     };
-    classes.define(WIDEST_CLASSES, class).ok().ok_or("a class")?;
-    Ok(())
+    is_out.ok() == Some(true) && text.as_slice() == SESSION && left.ok() == Some(nothing)
 }

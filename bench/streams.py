@@ -16,7 +16,7 @@ sys.path.append(str(TOP / "scripts"))
 from programs import built  # noqa: E402
 
 RUNS = 7
-LIBRARIES = "shared_dump dump_pipe dump_pump crossbeam_channel"
+LIBRARIES = "shared_dump dump_pipe byte_io crossbeam_channel"
 
 
 def times(program, count, streams):

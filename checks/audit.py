@@ -21,7 +21,7 @@ sys.path.append(str(TOP / "scripts"))
 
 from programs import built  # noqa: E402
 
-LIBRARIES = "dump_pump heap_work"
+LIBRARIES = "byte_io dump_pump heap_work"
 NAMES = "acts, finished cycles, rewinds, pairs of equal dumps, pairs with a pin that was lost or refused".split(", ")
 
 

@@ -1,6 +1,6 @@
 //! An inlet that tells a ticker of the lines that it gives.
 use crate::ticker::Ticker;
-use dump_pump::{Inlet, Take};
+use byte_io::{Inlet, Take};
 use std::sync::Wait;
 use std::time::Clock;
 

@@ -1,6 +1,6 @@
 //! An outlet that tells a ticker of an answer.
 use crate::ticker::Ticker;
-use dump_pump::{Outlet, Put};
+use byte_io::{Outlet, Put};
 use std::sync::Wait;
 
 /// An outlet that tells a ticker that the line has been answered, before it gives another what it is given. Contracts see what they

@@ -2,9 +2,9 @@
 use Rattle.std.proofs.Common.{◌≡◌, ℕ, ◌+◌, ◌<◌, ◌≤◌, min, Bool, true, false, List, [], ◌++◌, take, drop, length, Option, Some, None, if◌then◌else◌, refl, ap, sym, ◌∙◌, inl, inr, arith, append_assoc}
 use Rattle.std.proofs.lemmas.List.{append-nil, take-append-drop, length-append, length-take, take_all}
 use Rattle.std.specs.Io.KnownBytes.{Keeps}
-use Rattle.dump_pump.specs.Outlets.{Outgoing}
-use Rattle.dump_pump.specs.Pumps.{PutsAll}
-use Rattle.dump_pump.specs.Inlets.{Incoming, NothingLeft, whole}
+use Rattle.byte_io.specs.Outlets.{Outgoing}
+use Rattle.byte_io.specs.Puts.{PutsAll}
+use Rattle.byte_io.specs.Inlets.{Incoming, NothingLeft, whole}
 use Rattle.hprof_records.specs.Records.{completes, is_whole_dump}
 use Rattle.hprof_records.specs.declared.scan.Scan.{Scan}
 use Rattle.hprof_records.specs.declared.scan.Scan.TheVariants.{Within}

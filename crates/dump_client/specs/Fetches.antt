@@ -2,8 +2,8 @@
 use Rattle.std.specs.Prelude.{◌≡◌, ◌⊎◌, ℕ, ◌+◌, true, false, List, [], ◌++◌, length, min, codes, decimal, if◌then◌else◌}
 use Rattle.std.specs.Io.KnownBytes.{Keeps}
 use mathlib.Core.List.{IsPrefix}
-use Rattle.dump_pump.specs.Outlets.{Outgoing}
-use Rattle.dump_pump.specs.Inlets.{Incoming, NothingLeft, whole}
+use Rattle.byte_io.specs.Outlets.{Outgoing}
+use Rattle.byte_io.specs.Inlets.{Incoming, NothingLeft, whole}
 use Rattle.session_text.specs.Replies.{line}
 use Rattle.hprof_records.specs.Records.{completes, is_whole_dump}
 use Rattle.dump_client.specs.declared.intake.Fetched.{Fetched}

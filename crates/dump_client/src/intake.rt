@@ -3,10 +3,8 @@ ghost use Rattle.std.specs.Prelude.{◌≡◌};
 ghost use Rattle.dump_client.specs.Fetches.{IsFetched, finish_of};
 
 use crate::fetch_gauge::FetchGauge;
-use dump_pump::Outlet;
-use dump_pump::transfer::put_all;
+use byte_io::{Inlet, Outlet, Take, put_all};
 use hprof_records::Scan;
-use session_text::{Inlet, Take};
 use std::sync::Wait;
 
 /// The most bytes that are taken at once.

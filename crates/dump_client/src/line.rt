@@ -1,11 +1,11 @@
 //! The last line of a fetch.
 ghost use Rattle.std.specs.Prelude.{◌≡◌};
-ghost use Rattle.session_text.specs.Writes.{IsTextWritten};
+ghost use Rattle.byte_io.specs.Puts.{IsTextWritten};
 ghost use Rattle.dump_client.specs.Fetches.{finish_word, fetch_line_of};
 
 use crate::intake::{Fetched, Finish};
-use dump_pump::Outlet;
-use session_text::{write_all, write_number};
+use byte_io::{Outlet, write_all};
+use session_text::write_number;
 
 /// Puts out the last line: how the fetch ended, and the number of bytes that it put out. Returns whether all of it is out.
 pub fn write_last<O: Outlet>(writer: &mut O, fetched: &Fetched) -> bool

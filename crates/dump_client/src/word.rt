@@ -1,10 +1,9 @@
 //! What a client of a dump says first.
 ghost use Rattle.std.specs.Prelude.{◌∷◌, ◌++◌, []};
-ghost use Rattle.session_text.specs.Writes.{IsTextWritten};
+ghost use Rattle.byte_io.specs.Puts.{IsTextWritten};
 
-use dump_pump::Outlet;
+use byte_io::{Outlet, write_all};
 use secret_word::Secret;
-use session_text::write_all;
 
 /// Puts out the line of a secret word: the word and an LF. Returns whether all of it is out.
 pub fn say_word<O: Outlet>(outlet: &mut O, secret: Secret) -> bool

@@ -5,7 +5,7 @@ use Rattle.hprof_text.specs.declared.Piece.{Piece}
 use Rattle.dump_pump.specs.declared.source.SourceEnd.{SourceEnd}
 use Rattle.dump_pump.specs.declared.source.SourceEnd.TheVariants as Ended
 use Rattle.dump_pump.specs.declared.transfer.Pumped.TheVariants as Pumped
-use Rattle.dump_pump.specs.Outlets.{Outgoing}
+use Rattle.byte_io.specs.Outlets.{Outgoing}
 use Rattle.dump_pump.specs.Pumps.{joined}
 use Rattle.dump_pump.proofs.PumpSteps.{joined_bytes_with_last_piece}
 use Rattle.dump_pipe.specs.declared.message.Message.{Message}

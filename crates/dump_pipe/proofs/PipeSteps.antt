@@ -8,7 +8,7 @@ use Rattle.dump_pipe.specs.declared.message.Message.{Message}
 use Rattle.dump_pipe.specs.declared.end_side.EndSide.{EndSide}
 use Rattle.dump_pipe.specs.declared.end_side.EndSide.TheVariants.{Both, Sends, Gets, Spent}
 use Rattle.dump_pipe.specs.Pipes.{weigh, byte_limit, list_of, sends_of, gets_of, both_of, SitsAtEnd, IsInOrder, HasSent, HasGot, HasOrder}
-use Rattle.dump_pump.proofs.LongerLists.{item_of_list_with_one_more}
+use Rattle.byte_io.proofs.LongerLists.{item_of_list_with_one_more}
 
 pub weigh_append : (xs ys : List Message) → weigh (xs ++ ys) ≡ weigh xs + weigh ys
 weigh_append [] ys = omega arith

@@ -6,7 +6,7 @@ use Rattle.hprof_text.specs.declared.Piece.{Piece}
 use Rattle.dump_pump.specs.declared.source.SourceEnd.{SourceEnd}
 use Rattle.dump_pump.specs.declared.source.SourceEnd.TheVariants as Ended
 use Rattle.dump_pump.specs.declared.transfer.Pumped.{Pumped}
-use Rattle.dump_pump.specs.Outlets.{Outgoing}
+use Rattle.byte_io.specs.Outlets.{Outgoing}
 use Rattle.dump_pump.specs.Sources.{Supply}
 use Rattle.dump_pump.specs.Pumps.{joined, ends, FitsPump, IsPumped}
 use Rattle.dump_pipe.specs.declared.message.Message.{Message}

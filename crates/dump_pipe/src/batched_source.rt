@@ -5,7 +5,8 @@ ghost use Rattle.dump_pipe.specs.BatchedSources.{AreBatches, ended_by_batch, unb
 
 use crate::batch::next_batch;
 use crate::surplus::Surplus;
-use dump_pump::{Log, Next, Source, SourceEnd};
+use byte_io::Log;
+use dump_pump::{Next, Source, SourceEnd};
 use hprof_text::Piece;
 use std::alloc::Global;
 use std::marker::{Brand, Model, PhantomData};

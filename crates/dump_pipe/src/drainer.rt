@@ -10,8 +10,8 @@ ghost use Rattle.dump_pipe.specs.Drains.{IsDrained, IsSkipped, answer_to_source_
 use crate::channel::{End, Receiver, receive};
 use crate::counter::Counter;
 use crate::message::Message;
-use dump_pump::transfer::put_all;
-use dump_pump::{Outlet, Pumped, SourceEnd};
+use byte_io::{Outlet, put_all};
+use dump_pump::{Pumped, SourceEnd};
 use std::sync::Wait;
 
 /// Receives messages until the end of the source, and drops them.

@@ -4,8 +4,9 @@ ghost use Rattle.dump_pump.specs.Pumps.{IsPumped, bytes_of};
 ghost use Rattle.dump_pipe.specs.Seats.{HasDumpRoom, after_bytes};
 
 use crate::counter::Counter;
+use byte_io::Outlet;
 use dump_pump::transfer::pump_part;
-use dump_pump::{Outlet, Pumped, Source};
+use dump_pump::{Pumped, Source};
 
 /// Puts out the parts of a source as `pump` does, and counts their bytes, part by part. Takes no memory of its own. The sum has
 /// room for the bytes of a dump.

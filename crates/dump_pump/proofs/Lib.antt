@@ -1,3 +1,2 @@
-pub mod LongerLists
 pub mod JoinedPieces
 pub mod PumpSteps

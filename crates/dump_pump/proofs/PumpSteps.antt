@@ -1,11 +1,10 @@
 -- A pump with a part more.
-use Rattle.std.proofs.Common.{◌≡◌, ℕ, ◌+◌, ◌-◌, ◌*◌, ◌<◌, ◌≤◌, true, List, [], ◌∷◌, ◌++◌, take, drop, length, Option, Some, None, refl, ap, sym, ◌∙◌, arith, append_assoc, length-append}
-use Rattle.std.proofs.lemmas.List.{append-nil, length-drop, take_all}
-use Rattle.std.proofs.Math.Seq.{take-add}
+use Rattle.std.proofs.Common.{◌≡◌, ℕ, ◌+◌, ◌*◌, ◌<◌, ◌≤◌, true, List, [], ◌∷◌, ◌++◌, length, Option, Some, None, refl, ap, sym, ◌∙◌, arith, append_assoc, length-append}
+use Rattle.std.proofs.lemmas.List.{append-nil}
 use Rattle.hprof_text.specs.declared.Piece.{Piece}
 use Rattle.dump_pump.specs.declared.source.SourceEnd.{SourceEnd}
 use Rattle.dump_pump.specs.declared.transfer.Pumped.{Pumped}
-use Rattle.dump_pump.specs.Outlets.{Outgoing}
+use Rattle.byte_io.specs.Outlets.{Outgoing}
 use Rattle.dump_pump.specs.Sources.{Supply, more}
 use Rattle.hprof_text.specs.Laws.{piece_size_limit}
 use Rattle.dump_pump.specs.Pumps.{joined, ends, FitsPump, IsPumped, PumpsOn}
@@ -37,15 +36,6 @@ pub pieces_end_as_last_piece : (ps : List Piece) (p : Piece) → ends (ps ++ p �
 pieces_end_as_last_piece [] p = refl
 pieces_end_as_last_piece (x ∷ []) p = refl
 pieces_end_as_last_piece (x ∷ y ∷ ps) p = pieces_end_as_last_piece (y ∷ ps) p
-
--- what was put out goes on with a beginning of the rest
-pub output_goes_on_with_rest : (before bytes out out' : List ℕ) (at n : ℕ) → at ≤ length bytes → n ≤ length (take (length bytes - at) (drop at bytes)) → out ≡ before ++ take at bytes → out' ≡ out ++ take n (take (length bytes - at) (drop at bytes))
-    → (at + n ≤ length bytes) × (out' ≡ before ++ take (at + n) bytes)
-output_goes_on_with_rest before bytes out out' at n le fits was is =
-    let rest : take (length bytes - at) (drop at bytes) ≡ drop at bytes = take_all (length bytes - at) (drop at bytes) (omega (arith, length-drop at bytes)) in (
-      omega (arith, fits, ap length rest, length-drop at bytes, le),
-      is ∙ (λ i. was i ++ take n (rest i)) ∙ append_assoc before (take at bytes) (take n (drop at bytes)) ∙ ap (λ l. before ++ l) (sym (take-add at n bytes)),
-    )
 
 pub list_ends_before_more_pieces : (ps qs : List Piece) → ends qs ≡ true → ends (ps ++ qs) ≡ true
 list_ends_before_more_pieces ps [] e = absurd (cc e)

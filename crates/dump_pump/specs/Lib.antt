@@ -1,5 +1,3 @@
-pub mod Outlets
-pub mod Inlets
 pub mod Sources
 pub mod Pumps
 -- What clauses here, and proofs above, cite of the crates below.

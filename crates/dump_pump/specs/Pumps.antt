@@ -1,12 +1,12 @@
 -- The effect of a pump.
-use Rattle.std.specs.Prelude.{◌≡◌, ℕ, ◌+◌, ◌<◌, ◌≤◌, Bool, true, false, List, [], ◌∷◌, ◌++◌, take, length, Option, Some, None}
+use Rattle.std.specs.Prelude.{◌≡◌, ℕ, ◌+◌, ◌<◌, ◌≤◌, Bool, true, false, List, [], ◌∷◌, ◌++◌, length, Option, Some, None}
 use mathlib.Core.List.{IsPrefix}
 use Rattle.hprof_text.specs.declared.Piece.{Piece}
 use Rattle.dump_pump.specs.declared.source.SourceEnd.{SourceEnd}
 use Rattle.dump_pump.specs.declared.source.SourceEnd.TheVariants as End
 use Rattle.dump_pump.specs.declared.transfer.Pumped.{Pumped}
 use Rattle.dump_pump.specs.declared.transfer.Pumped.TheVariants.{Done, OutletFailed, Lost, Cancelled}
-use Rattle.dump_pump.specs.Outlets.{Outgoing}
+use Rattle.byte_io.specs.Outlets.{Outgoing}
 use Rattle.dump_pump.specs.Sources.{Supply, more}
 use Rattle.hprof_text.specs.Laws.{piece_size_limit}
 
@@ -27,13 +27,6 @@ bytes_of (Done n) = n
 bytes_of (OutletFailed n) = n
 bytes_of (Lost cause n) = n
 bytes_of (Cancelled n) = n
-
--- n of the bytes, from the front, were put out: fewer than all only if a put failed
-abbrev pub PutsAll : List ℕ → Outgoing → Outgoing → ℕ → Type 0
-PutsAll bytes w w' n =
-    (n ≤ length bytes) × (w'.out ≡ w.out ++ take n bytes)
-    × (n ≡ length bytes → w'.failures ≡ w.failures)
-    × (n < length bytes → w'.failures ≡ w.failures + 1)
 
 -- an outcome fits the parts given, the bytes put out, the end of the source, and the failures before and after
 abbrev pub FitsPump : List Piece → List ℕ → Option SourceEnd → ℕ → ℕ → Pumped → Type 0

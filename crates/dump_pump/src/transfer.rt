@@ -1,10 +1,10 @@
 //! Dumps, put out part by part.
 ghost use Rattle.std.specs.Prelude.{◌≡◌, ◌+◌, ◌<◌, ◌≤◌, ◌^◌};
-ghost use Rattle.dump_pump.specs.Pumps.{IsPumped, PumpsOn, PutsAll};
+ghost use Rattle.dump_pump.specs.Pumps.{IsPumped, PumpsOn};
 ghost use Rattle.hprof_text.specs.Laws.{piece_size_limit};
 
 use crate::source::{Next, Source};
-use crate::{Outlet, Put};
+use byte_io::{Outlet, put_all};
 use heap_class::LostCause;
 
 /// The outcome of a pump, with the number of bytes that it put out.
@@ -18,20 +18,6 @@ pub enum Pumped {
     Lost { cause: LostCause, bytes: u64 },
     /// The dump was cancelled. All parts that came before are out.
     Cancelled { bytes: u64 },
-}
-
-/// Puts out all bytes, unless a put fails. Returns the number of bytes that are out.
-pub fn put_all<O: Outlet>(outlet: &mut O, bytes: &[u8]) -> usize
-    ensures { PutsAll bytes.now (O.seen outlet.old) (O.seen outlet.new) result }
-{
-    let mut at = 0;
-    while at < bytes.len() {
-        match outlet.put(&bytes[at..]) {
-            Put::Took(n) => at += n,
-            Put::Failed => return at,
-        }
-    }
-    at
 }
 
 /// Puts out the next part of a source, and adds its bytes to those that a pump put out before. Returns the outcome if the pump

@@ -3,8 +3,8 @@ use Rattle.std.proofs.Common.{◌≡◌, ◌∙◌, ◌++◌, ◌⊎◌, ◌+◌
 use Rattle.std.specs.Prelude.{◌≢◌, IfSome, option_map}
 use Rattle.std.specs.Io.KnownBytes.{Keeps}
 use Rattle.std.proofs.lemmas.List.{append-nil, take-append-le}
-use Rattle.dump_pump.specs.Inlets.{Incoming}
-use Rattle.dump_pump.specs.Outlets.{Outgoing}
+use Rattle.byte_io.specs.Inlets.{Incoming}
+use Rattle.byte_io.specs.Outlets.{Outgoing}
 use Rattle.session_text.specs.Answers.{AnswerRelation}
 use Rattle.session_text.specs.Endings.{EndsSession}
 use Rattle.session_text.specs.Limits.{longest_line}

@@ -1,7 +1,7 @@
 -- A read of at most a line.
 use Rattle.std.specs.Prelude.{ℕ, ◌<◌, ◌≤◌, List, ⊤, length}
-use Rattle.dump_pump.specs.declared.inlet.Take.{Take}
-use Rattle.dump_pump.specs.declared.inlet.Take.TheVariants.{Got, End, Failed}
+use Rattle.byte_io.specs.declared.inlet.Take.{Take}
+use Rattle.byte_io.specs.declared.inlet.Take.TheVariants.{Got, End, Failed}
 
 -- a read gave bytes to the front of a room, at least one, or none
 abbrev pub IsLineGiven : List ℕ → Take → Type 0

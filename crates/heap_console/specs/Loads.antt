@@ -1,12 +1,12 @@
 -- Lines that are run before a session.
 use Rattle.std.specs.Prelude.{◌⊎◌, ℕ, List, [], Option, Some, None, ⊤}
-use Rattle.dump_pump.specs.Outlets.{Outgoing}
+use Rattle.byte_io.specs.Outlets.{Outgoing}
 use Rattle.session_text.specs.Answers.{AnswerRelation}
 use Rattle.session_text.specs.Talks.{IsLong, IsQuit, IsTalk, Serves}
 use Rattle.session_text.specs.declared.Ended.{Ended}
 use Rattle.session_text.specs.declared.Ended.TheVariants.{Quit, Eof, CutLine, TooLong, ReadFault, TooManyReads, WriteFault, NoMemory}
 use Rattle.session_text.specs.declared.limits.SessionLimits.{SessionLimits}
-use Rattle.dump_pump.specs.Inlets.{Incoming}
+use Rattle.byte_io.specs.Inlets.{Incoming}
 
 -- the lines that some inlet gave were served by who answers so, in a session that may have at most this, and what was written
 -- for them is not shown

@@ -1,9 +1,9 @@
 -- Lines that a person means by others.
 use Rattle.std.specs.Prelude.{ℕ, ◌≡◌, ◌⊎◌, ◌++◌, ◌∷◌, [], List, Option, Some, None, codes, length, take, if◌then◌else◌}
 use Rattle.std.specs.Str.{bytes_eq}
-use Rattle.dump_pump.specs.declared.inlet.Take.{Take}
-use Rattle.dump_pump.specs.declared.inlet.Take.TheVariants.{Got}
-use Rattle.dump_pump.specs.Inlets.{Incoming, IsTake}
+use Rattle.byte_io.specs.declared.inlet.Take.{Take}
+use Rattle.byte_io.specs.declared.inlet.Take.TheVariants.{Got}
+use Rattle.byte_io.specs.Inlets.{Incoming, IsTake}
 use Rattle.session_grammar.specs.Grammar.{words_of_line}
 
 -- the line that a person means by a word that stands alone in a line, if it is another

@@ -1,6 +1,6 @@
 //! An outlet that reports the lines that were refused, by their answers.
 use crate::line_reports::LineReports;
-use dump_pump::{Outlet, Put};
+use byte_io::{Outlet, Put};
 use std::time::Clock;
 
 // An outlet that gives what another takes to reports of lines, each of which has one line as its answer: as those have that ask for

@@ -4,9 +4,8 @@ ghost use Rattle.std.specs.Prelude.{◌≡◌, ◌<◌, [], length};
 use crate::console::Console;
 use crate::heading::Heading;
 use crate::row_words::ShownLines;
-use dump_pump::ghost_list::note_bytes;
-use dump_pump::{Log, Outlet, Put};
-use session_text::write_all;
+use byte_io::ghost_list::note_bytes;
+use byte_io::{Log, Outlet, Put, write_all};
 use std::alloc::{AllocError, Global};
 use std::marker::Model;
 use std::mem;
@@ -33,7 +32,7 @@ pub struct ColumnOutlet<'a, O: Outlet + Drop> {
 
 impl<'a, O: Outlet + Drop> Model for ColumnOutlet<'a, O> {
     ghost use Rattle.std.specs.Prelude.{length};
-    ghost use Rattle.dump_pump.specs.Outlets.{Outgoing, ghost_bytes};
+    ghost use Rattle.byte_io.specs.Outlets.{Outgoing, ghost_bytes};
 
     ghost Value = { Outgoing };
 

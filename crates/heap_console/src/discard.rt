@@ -1,8 +1,8 @@
 //! An outlet that takes everything and keeps nothing.
 ghost use Rattle.std.specs.Prelude.{◌≡◌, []};
 
-use dump_pump::ghost_list::note_bytes;
-use dump_pump::{Log, Outlet, Put};
+use byte_io::ghost_list::note_bytes;
+use byte_io::{Log, Outlet, Put};
 use std::marker::Model;
 
 // An outlet that takes all that it is given and keeps nothing. Contracts see the bytes that it took.
@@ -13,7 +13,7 @@ pub(crate) struct Discard {
 
 impl Model for Discard {
     ghost use Rattle.std.specs.Prelude.{ℕ, List};
-    ghost use Rattle.dump_pump.specs.Outlets.{ghost_bytes};
+    ghost use Rattle.byte_io.specs.Outlets.{ghost_bytes};
 
     ghost Value = { List ℕ };
 

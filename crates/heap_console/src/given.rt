@@ -1,12 +1,11 @@
 //! The bytes that an inlet gave.
 ghost use Rattle.std.specs.Prelude.{◌≡◌, [], None};
-ghost use Rattle.dump_pump.specs.Inlets.{IsTake};
+ghost use Rattle.byte_io.specs.Inlets.{IsTake};
 ghost use Rattle.heap_console.specs.Lines.{IsLineGiven};
 
-use dump_pump::Log;
-use dump_pump::ghost_list::note_bytes;
-use dump_pump::inlet::count_of;
-use session_text::Take;
+use byte_io::ghost_list::note_bytes;
+use byte_io::inlet::count_of;
+use byte_io::{Log, Take};
 use std::marker::Model;
 
 // What an inlet gave that reads from another place, as contracts see it: the bytes, the number of bytes of each read, and the
@@ -20,8 +19,8 @@ pub(crate) struct Given {
 
 impl Model for Given {
     ghost use Rattle.std.specs.Prelude.{None, length, map};
-    ghost use Rattle.dump_pump.specs.Outlets.{ghost_bytes};
-    ghost use Rattle.dump_pump.specs.Inlets.{Incoming};
+    ghost use Rattle.byte_io.specs.Outlets.{ghost_bytes};
+    ghost use Rattle.byte_io.specs.Inlets.{Incoming};
 
     ghost Value = { Incoming };
 

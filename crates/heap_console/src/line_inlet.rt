@@ -6,7 +6,7 @@ use crate::columns::LINE_END;
 use crate::given::Given;
 use crate::line_reports::LineReports;
 use crate::newest::NewestLine;
-use session_text::{Inlet, Take};
+use byte_io::{Inlet, Take};
 use std::alloc::{AllocError, Global};
 use std::io::{BufRead, BufReader, Read};
 use std::time::Clock;

@@ -9,8 +9,8 @@ use crate::discard::Discard;
 use crate::line_reports::LineReports;
 use crate::load::report_ending;
 use crate::text_inlet::{TextInlet, whole_lines};
-use dump_pump::ghost_list::note_bytes;
-use dump_pump::{Log, Outlet, Put};
+use byte_io::ghost_list::note_bytes;
+use byte_io::{Log, Outlet, Put};
 use session_text::{Commands, Ended, SessionLimits, serve};
 use std::alloc::Global;
 use std::marker::{Brand, Model, PhantomData};
@@ -58,7 +58,7 @@ pub struct LoadOutlet<'a, R, C: Commands + Drop, B: LoadStart<C>> {
 
 impl<'a, R, C: Commands + Drop, B: LoadStart<C>> Model for LoadOutlet<'a, R, C, B> {
     ghost use Rattle.std.specs.Prelude.{◌≡◌, length};
-    ghost use Rattle.dump_pump.specs.Outlets.{Outgoing, ghost_bytes};
+    ghost use Rattle.byte_io.specs.Outlets.{Outgoing, ghost_bytes};
     ghost use Rattle.session_text.specs.Answers.{AnswersCommand};
     ghost use Rattle.session_text.specs.declared.Ended.TheVariants.{Eof};
     ghost use Rattle.heap_console.specs.Loads.{AreLinesRun};

@@ -1,13 +1,13 @@
 //! Lines that a person means by others: `quit`, `exit`, `q` and `?`.
 ghost use Rattle.std.specs.Prelude.{◌≡◌, ◌<◌, ◌≤◌, IfSome, length, option_map, take};
-ghost use Rattle.dump_pump.specs.declared.inlet.Take.TheVariants.{Got};
+ghost use Rattle.byte_io.specs.declared.inlet.Take.TheVariants.{Got};
 ghost use Rattle.heap_console.specs.Lines.{IsLineGiven};
 ghost use Rattle.heap_console.specs.Meant.{IsMeant, IsMeantLine, meant_by, meant_word};
 
 use crate::columns::LINE_END;
+use byte_io::Take;
 use session_grammar::by_word;
 use session_grammar::words::Words;
-use session_text::Take;
 
 // Puts the line that a person means instead of the one that a read gave to the front of a room, if it is another and there is
 // room for it.

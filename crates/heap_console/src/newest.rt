@@ -2,7 +2,7 @@
 ghost use Rattle.std.specs.Prelude.{◌≤◌, length};
 
 use crate::columns::LINE_END;
-use dump_pump::{Outlet, Put};
+use byte_io::{Outlet, Put};
 use std::alloc::Global;
 use std::cell::Cell;
 

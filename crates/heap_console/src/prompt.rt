@@ -8,9 +8,9 @@ use crate::columns::LINE_END;
 use crate::console::Console;
 use crate::given::Given;
 use crate::meant::give_meant;
+use byte_io::{Inlet, Take};
 use heap_class::Refusal;
 use question_text::BAD_COMMAND;
-use session_text::{Inlet, Take};
 use std::alloc::Global;
 
 /// An inlet for a person at a terminal. Before each read it writes advice on the line before, if that was no command or named

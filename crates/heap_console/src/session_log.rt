@@ -1,8 +1,7 @@
 //! The log of a session.
 
 use crate::columns::LINE_END;
-use dump_pump::{Outlet, Put};
-use session_text::{Inlet, Take, write_all};
+use byte_io::{Inlet, Outlet, Put, Take, write_all};
 use std::alloc::{AllocError, Global};
 use std::cell::Cell;
 

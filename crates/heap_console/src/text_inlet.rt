@@ -3,7 +3,7 @@ ghost use Rattle.std.specs.Prelude.{◌≡◌, ◌<◌, ◌≤◌, [], length, t
 
 use crate::columns::LINE_END;
 use crate::given::Given;
-use session_text::{Inlet, Take};
+use byte_io::{Inlet, Take};
 use std::marker::Model;
 
 // An inlet over lines in memory, which gives as many whole lines at a read as there is room for. No read fails. Contracts see the

@@ -5,10 +5,10 @@ use Rattle.heap_class.specs.declared.Refusal.{Refusal}
 use Rattle.heap_class.specs.declared.Refusal.TheVariants.{NoMemory}
 use Rattle.hprof_text.specs.Image.{Image}
 use Rattle.hprof_text.specs.Segments.{dump_text}
-use Rattle.dump_pump.specs.Inlets.{Incoming}
-use Rattle.dump_pump.specs.Outlets.{Outgoing}
+use Rattle.byte_io.specs.Inlets.{Incoming}
+use Rattle.byte_io.specs.Outlets.{Outgoing}
 use Rattle.session_text.specs.Replies.{and_number, line}
-use Rattle.session_text.specs.Writes.{IsTextWritten}
+use Rattle.byte_io.specs.Puts.{IsTextWritten}
 use Rattle.question_words.specs.Moments.{refused_text}
 use Rattle.question_text.specs.declared.state_dump.DumpCut.{DumpCut}
 use Rattle.question_text.specs.declared.state_dump.DumpCut.TheVariants.{Failed, Memory}

@@ -7,13 +7,14 @@ ghost use Rattle.question_text.specs.StateDumps.{IsBegun};
 ghost use Rattle.heap_files.specs.Files.{IsAnswerOfMade, IsDumpAnswer, IsFileAnswer, IsFinished, IsPictureAnswer, reason_of, written_text};
 
 use crate::folder::Folder;
+use byte_io::write_all;
 use heap_class::Refusal;
 use heap_console::{PICTURE_ROWS, picture_at};
 use heap_trail::{Machine, Reply};
 use hprof_text::{Cursor, Piece, View, text_len};
 use question_text::{DumpCut, first_piece, put_pieces};
 use question_words::{At, moment_at, view_of};
-use session_text::{LineAnswer, write_all};
+use session_text::LineAnswer;
 use std::alloc::Global;
 
 /// The reason why a file wasn't written.

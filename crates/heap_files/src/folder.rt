@@ -1,5 +1,5 @@
 //! The trait of folders, in which files are made and read.
-use session_text::{Inlet, Outlet};
+use byte_io::{Inlet, Outlet};
 
 /// A place in which files are made and read. Contracts see what it may do.
 pub trait Folder {

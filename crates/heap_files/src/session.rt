@@ -4,7 +4,8 @@ ghost use Rattle.heap_files.specs.Filings.{ServesFiling};
 
 use crate::filing::Filing;
 use crate::folder::Folder;
-use session_text::{Ended, Inlet, Outlet, serve};
+use byte_io::{Inlet, Outlet};
+use session_text::{Ended, serve};
 use std::alloc::Global;
 
 /// Serves a session as `serve_asking` does, whose lines `write [AT] PATH` and `draw [AT] PATH` write files, and change nothing

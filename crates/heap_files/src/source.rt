@@ -5,11 +5,12 @@ ghost use Rattle.question_words.specs.Places.{place_text};
 ghost use Rattle.heap_files.specs.Sources.{IsRun, IsSourceText};
 
 use crate::text_outlet::TextOutlet;
+use byte_io::Inlet;
 use heap_class::Refusal;
 use heap_trail::Reply;
 use question_text::{Asking, serve_asking};
 use question_words::{push_number, push_words};
-use session_text::{Inlet, LineAnswer, SessionLimits};
+use session_text::{LineAnswer, SessionLimits};
 use std::alloc::{AllocError, Global};
 
 /// Runs lines as a session of their own on a heap, in which no line writes a file, and returns all its replies, and behind them the

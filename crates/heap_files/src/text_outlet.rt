@@ -1,7 +1,7 @@
 //! An outlet in memory.
 ghost use Rattle.std.specs.Prelude.{◌≡◌, []};
 
-use dump_pump::{Log, Outlet, Put};
+use byte_io::{Log, Outlet, Put};
 use std::alloc::Global;
 use std::marker::Model;
 
@@ -15,7 +15,7 @@ pub(crate) struct TextOutlet {
 
 impl Model for TextOutlet {
     ghost use Rattle.std.specs.Prelude.{length};
-    ghost use Rattle.dump_pump.specs.Outlets.{Outgoing};
+    ghost use Rattle.byte_io.specs.Outlets.{Outgoing};
 
     ghost Value = { Outgoing };
 

@@ -9,7 +9,7 @@ ghost use Rattle.heap_lock.specs.Dumpers.{IsOwnCall};
 
 use crate::heap::{Heap, Shared};
 use crate::witness::Witness;
-use dump_pump::Log;
+use byte_io::Log;
 use heap_class::Refusal;
 use heap_trail::{Action, PinAt, Reply};
 use hprof_text::Piece;

@@ -6,7 +6,7 @@ use Rattle.heap_lock.specs.HeapLimits.{HeapSettings}
 use Rattle.heap_lock.specs.Dumpers.{DumperState}
 use Rattle.dump_pump.specs.declared.transfer.Pumped.{Pumped}
 use Rattle.dump_pump.specs.declared.transfer.Pumped.TheVariants.{Done, OutletFailed, Lost, Cancelled}
-use Rattle.dump_pump.specs.Outlets.{Outgoing}
+use Rattle.byte_io.specs.Outlets.{Outgoing}
 use Rattle.heap_runtime.specs.Dumps.{IsDumped, Sees, SaidNo, IsCancelledBy}
 
 module _ {W : Type 0} (says : W → ℕ → Bool → W → Type 0) where

@@ -7,7 +7,7 @@ use Rattle.heap_lock.specs.Action.TheVariants.{OpenPin}
 use Rattle.heap_lock.specs.Reply.TheVariants.{Refused}
 use Rattle.dump_pump.specs.declared.transfer.Pumped.{Pumped}
 use Rattle.dump_pump.specs.declared.transfer.Pumped.TheVariants.{Done, OutletFailed, Lost, Cancelled}
-use Rattle.dump_pump.specs.Outlets.{Outgoing}
+use Rattle.byte_io.specs.Outlets.{Outgoing}
 use Rattle.heap_lock.specs.Dumpers.{DumperState, Makes}
 use Rattle.shared_dump.specs.Dumps.{IsDump}
 

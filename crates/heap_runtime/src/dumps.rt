@@ -5,7 +5,8 @@ ghost use Rattle.heap_class.specs.declared.Refusal.TheVariants.{NoMemory};
 ghost use Rattle.shared_dump.specs.Seats.{knows};
 ghost use Rattle.heap_runtime.specs.Dumps.{IsCancelledBy, IsDumped, SaidNo};
 
-use dump_pump::{Outlet, Pumped};
+use byte_io::Outlet;
+use dump_pump::Pumped;
 use heap_class::Refusal;
 use heap_lock::{Dumper, Heap};
 use shared_dump::{AskSeat, Cancel, FeedSeat, LivePin, Meter, ReadSeat, StreamSeats, stream};

@@ -14,10 +14,11 @@ pub mod totals;
 
 pub use actor::{Actor, Claim, Denial};
 pub use actors::Actors;
+pub use byte_io::{Outlet, WriteOutlet};
 pub use classes::{define_array_class, define_class};
 pub use count::Count;
 pub use cycles::Halt;
-pub use dump_pump::{Outlet, Pumped, WriteOutlet};
+pub use dump_pump::Pumped;
 pub use dumps::{DumpWatcher, Dumped, LastSeen, dump};
 pub use heap_class::{Field, Fields, Kind, Name, Refusal};
 pub use heap_lock::{

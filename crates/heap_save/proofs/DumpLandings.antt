@@ -17,7 +17,7 @@ use Rattle.machine_dump.specs.Pins.{open_refusal}
 use Rattle.machine_dump.specs.Machine.{Machine}
 use Rattle.dump_pump.specs.declared.transfer.Pumped.{Pumped}
 use Rattle.dump_pump.specs.declared.transfer.Pumped.TheVariants.{Done, OutletFailed, Lost, Cancelled}
-use Rattle.dump_pump.specs.Outlets.{Outgoing}
+use Rattle.byte_io.specs.Outlets.{Outgoing}
 use Rattle.dump_pump.specs.Pumps.{bytes_of}
 use Rattle.machine_dump.specs.PinDumps.{FitsText, PutsText, DumpsUnless, IsPlaceDumped, with_number_used}
 use Rattle.heap_save.specs.declared.late_outlet.Opening.{Opening}

@@ -2,16 +2,16 @@
 use Rattle.std.proofs.Common.{◌≡◌, ℕ, Bool, true, false, refl, subst, sym, Option, Some, None}
 use Rattle.dump_pump.specs.declared.transfer.Pumped.{Pumped}
 use Rattle.dump_pump.specs.declared.transfer.Pumped.TheVariants.{Done, OutletFailed, Lost, Cancelled}
-use Rattle.dump_pump.specs.Outlets.{Outgoing}
+use Rattle.byte_io.specs.Outlets.{Outgoing}
 use Rattle.machine_dump.specs.Machine.{Machine}
 use Rattle.session_text.specs.declared.Ended.{Ended}
 use Rattle.session_text.specs.Endings.{EndsSession, ended_of}
 use Rattle.session_text.specs.declared.limits.SessionLimits.{SessionLimits}
-use Rattle.dump_pump.specs.Inlets.{Incoming}
+use Rattle.byte_io.specs.Inlets.{Incoming}
 use Rattle.session_text.specs.Limits.{is_whole_session}
 use Rattle.session_text.specs.Local.{own_closed}
 use Rattle.session_text.specs.Session.{IsSession}
-use Rattle.session_text.specs.Writes.{IsTextWritten}
+use Rattle.byte_io.specs.Puts.{IsTextWritten}
 use Rattle.heap_save.specs.Saves.{IsSaved, EndsSave, Lands, LandsNowhere, last_line}
 
 -- after a session in which each line was run, a dump and a last line

@@ -1,8 +1,8 @@
 -- Outlets that are made at their first put.
 use Rattle.std.specs.Prelude.{◌≡◌, ℕ, ◌+◌, ◌<◌, ◌≤◌, List, [], ◌++◌, take, length, Option, Some, None}
-use Rattle.dump_pump.specs.declared.Put.{Put}
-use Rattle.dump_pump.specs.declared.Put.TheVariants.{Took, Failed}
-use Rattle.dump_pump.specs.Outlets.{Outgoing, IsPut}
+use Rattle.byte_io.specs.declared.Put.{Put}
+use Rattle.byte_io.specs.declared.Put.TheVariants.{Took, Failed}
+use Rattle.byte_io.specs.Outlets.{Outgoing, IsPut}
 use Rattle.heap_save.specs.declared.late_outlet.Opening.{Opening}
 use Rattle.heap_save.specs.declared.late_outlet.Opening.TheVariants.{Unasked, Made, Refused}
 

@@ -1,11 +1,11 @@
 //! Outlets that are made at their first put.
 ghost use Rattle.std.specs.Prelude.{◌≡◌, ◌+◌, ◌<◌, ◌++◌, length};
-ghost use Rattle.dump_pump.specs.Outlets.{ghost_bytes};
+ghost use Rattle.byte_io.specs.Outlets.{ghost_bytes};
 ghost use Rattle.heap_save.specs.LateOutlets.{IsOutletAsked, IsPutThere, FitsLate, bytes_taken, failures_of, outlet_in, unasked, IsLate};
 
 use crate::outlets::Outlets;
-use dump_pump::ghost_list::note_bytes;
-use dump_pump::{Log, Outlet, Put};
+use byte_io::ghost_list::note_bytes;
+use byte_io::{Log, Outlet, Put};
 use std::marker::{Brand, Model, PhantomData};
 
 // A fact about a target before it was asked. Each call picks it.
@@ -41,7 +41,7 @@ pub(crate) struct LateOutlet<P: Outlets, B: Origin<P>> {
 
 impl<P: Outlets, B: Origin<P>> Model for LateOutlet<P, B> {
     ghost use Rattle.std.specs.Prelude.{length};
-    ghost use Rattle.dump_pump.specs.Outlets.{ghost_bytes};
+    ghost use Rattle.byte_io.specs.Outlets.{ghost_bytes};
     ghost use Rattle.heap_save.specs.LateOutlets.{Late, IsLate};
 
     ghost Value = { Late P P.Out };

@@ -1,12 +1,13 @@
 //! The last line of a session that is saved.
 ghost use Rattle.std.specs.Prelude.{◌++◌, decimal};
 ghost use Rattle.session_text.specs.Replies.{line};
-ghost use Rattle.session_text.specs.Writes.{IsTextWritten};
+ghost use Rattle.byte_io.specs.Puts.{IsTextWritten};
 ghost use Rattle.heap_save.specs.Saves.{IsUncancelled, last_line};
 
-use dump_pump::{Outlet, Pumped};
+use byte_io::{Outlet, write_all};
+use dump_pump::Pumped;
 use machine_dump::LostCause;
-use session_text::{write_all, write_number};
+use session_text::write_number;
 
 // Puts out the last line: how the dump ended, and the number of bytes that the outlet took. A dump that was cancelled has no
 // such line.

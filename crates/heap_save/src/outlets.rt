@@ -1,10 +1,10 @@
 //! The trait of targets, which make the outlet of a save.
-use dump_pump::Outlet;
+use byte_io::Outlet;
 
 /// A target that makes the outlet of a save, such as a file of some name. Contracts see what it may make.
 pub trait Outlets {
     ghost use Rattle.std.specs.Prelude.{Option, option_map};
-    ghost use Rattle.dump_pump.specs.Outlets.{Outgoing};
+    ghost use Rattle.byte_io.specs.Outlets.{Outgoing};
 
     type Out: Outlet + Drop;
 

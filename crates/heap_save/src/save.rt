@@ -8,9 +8,10 @@ ghost use Rattle.heap_save.specs.Saves.{EndsSave, IsUncancelled, IsSaved, Lands,
 use crate::late_outlet::{LateOutlet, Origin};
 use crate::line::write_last;
 use crate::outlets::Outlets;
-use dump_pump::{Outlet, Pumped};
+use byte_io::{Inlet, Outlet};
+use dump_pump::Pumped;
 use machine_dump::{Gauge, Machine, stream_place};
-use session_text::{Ended, Inlet, Local, SessionLimits, serve_local};
+use session_text::{Ended, Local, SessionLimits, serve_local};
 use std::alloc::Global;
 use std::marker::Brand;
 use std::sync::Wait;

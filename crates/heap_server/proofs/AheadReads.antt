@@ -4,8 +4,8 @@ use Rattle.std.specs.Prelude.{IfSome, MatchOption, is_some, option_map}
 use Rattle.std.proofs.lemmas.List.{append-nil, append_cancel_left, drop-drop, drop_all}
 use Rattle.std.specs.Io.KnownBytes.{Consumes, IsAtEnd, Keeps, prepend_known}
 use Rattle.std.proofs.KnownBytes.{Keeps-refl, prepend_known-nil}
-use Rattle.dump_pump.specs.declared.inlet.Take.{Take}
-use Rattle.dump_pump.specs.Inlets.{Incoming, IsTake, IsTriedRead, whole}
+use Rattle.byte_io.specs.declared.inlet.Take.{Take}
+use Rattle.byte_io.specs.Inlets.{Incoming, IsTake, IsTriedRead, whole}
 use Rattle.session_text.specs.Buffers.{IsInletRead}
 use Rattle.session_grammar.specs.Lines.{IsLineAt, NoLf}
 use Rattle.heap_server.specs.Ahead.{IsAhead, IsDecided}

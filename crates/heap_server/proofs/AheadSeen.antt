@@ -2,9 +2,9 @@
 use Rattle.std.proofs.Common.{◌≡◌, ◌∙◌, ◌⊎◌, ◌<◌, ◌≤◌, ℕ, ◌+◌, Bool, true, List, [], ◌∷◌, ◌++◌, length, take, drop, refl, sym, ap, subst, inl, inr, arith, append_assoc, length-append, take-append-drop}
 use Rattle.std.proofs.lemmas.List.{append-nil, drop_all}
 use lib.Seq.{take-add}
-use Rattle.dump_pump.specs.declared.inlet.Take.{Take}
-use Rattle.dump_pump.specs.declared.inlet.Take.TheVariants.{Got, End, Failed}
-use Rattle.dump_pump.specs.Inlets.{Incoming, IsTake, count_of}
+use Rattle.byte_io.specs.declared.inlet.Take.{Take}
+use Rattle.byte_io.specs.declared.inlet.Take.TheVariants.{Got, End, Failed}
+use Rattle.byte_io.specs.Inlets.{Incoming, IsTake, count_of}
 use Rattle.session_text.specs.Buffers.{IsLastEmpty}
 use Rattle.heap_server.specs.Ahead.{GoesOn, IsGivenUpTo, IsSeenBehind}
 

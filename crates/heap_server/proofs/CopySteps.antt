@@ -2,9 +2,9 @@
 use Rattle.std.proofs.Common.{◌≡◌, ℕ, ◌+◌, ◌<◌, ◌≤◌, List, [], ◌++◌, take, drop, length, Option, Some, None, refl, ap, sym, ◌∙◌, arith, append_assoc}
 use Rattle.std.proofs.lemmas.List.{append-nil, take-append-drop, length-drop, take_all}
 use Rattle.std.specs.Io.KnownBytes.{Keeps}
-use Rattle.dump_pump.specs.Outlets.{Outgoing}
-use Rattle.dump_pump.specs.Pumps.{PutsAll}
-use Rattle.dump_pump.specs.Inlets.{Incoming, NothingLeft, whole}
+use Rattle.byte_io.specs.Outlets.{Outgoing}
+use Rattle.byte_io.specs.Puts.{PutsAll}
+use Rattle.byte_io.specs.Inlets.{Incoming, NothingLeft, whole}
 use Rattle.heap_server.specs.declared.copy.Copied.TheVariants.{Whole, ReadFault, WriteFault}
 use Rattle.heap_server.specs.Copies.{IsGoing, Copies, Takes}
 use Rattle.session_text.proofs.AnsweredLines.{kept_bytes_kept_in_turn}

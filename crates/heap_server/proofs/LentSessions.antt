@@ -1,8 +1,8 @@
 -- What a session did that was lent its reader, its writer and its commands.
 use Rattle.std.proofs.Common.{◌≡◌, ℕ, Option, Some, subst, sym}
 use Rattle.std.specs.Prelude.{IfSome}
-use Rattle.dump_pump.specs.Inlets.{Incoming}
-use Rattle.dump_pump.specs.Outlets.{Outgoing}
+use Rattle.byte_io.specs.Inlets.{Incoming}
+use Rattle.byte_io.specs.Outlets.{Outgoing}
 use Rattle.session_text.specs.declared.Ended.{Ended}
 use Rattle.session_text.specs.Answers.{AnswerRelation}
 use Rattle.session_text.specs.Dumps.{Acts}

@@ -1,9 +1,9 @@
 -- What is read ahead of a session.
 use Rattle.std.specs.Prelude.{◌≡◌, ◌⊎◌, ◌<◌, ◌≤◌, ℕ, ◌+◌, Bool, true, false, List, [], ◌∷◌, ◌++◌, drop, length, take}
 use Rattle.std.specs.Io.KnownBytes.{Keeps, prepend_known}
-use Rattle.dump_pump.specs.Inlets.{Incoming, IsTake, NothingLeft}
-use Rattle.dump_pump.specs.declared.inlet.Take.{Take}
-use Rattle.dump_pump.specs.declared.inlet.Take.TheVariants.{Got, Failed}
+use Rattle.byte_io.specs.Inlets.{Incoming, IsTake, NothingLeft}
+use Rattle.byte_io.specs.declared.inlet.Take.{Take}
+use Rattle.byte_io.specs.declared.inlet.Take.TheVariants.{Got, Failed}
 use Rattle.session_text.specs.Buffers.{IsLastEmpty}
 use Rattle.session_grammar.specs.Lines.{IsLineAt, NoLf}
 

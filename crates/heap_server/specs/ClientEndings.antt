@@ -1,8 +1,8 @@
 -- What a client sends, and how it ends.
 use Rattle.std.specs.Prelude.{◌≡◌, ◌⊎◌, ℕ, ◌<◌, Bool, true, false, List, [], ◌∷◌, ◌++◌, length, Option, Some, None, codes}
-use Rattle.dump_pump.specs.Outlets.{Outgoing}
-use Rattle.dump_pump.specs.Pumps.{PutsAll}
-use Rattle.dump_pump.specs.Inlets.{Incoming}
+use Rattle.byte_io.specs.Outlets.{Outgoing}
+use Rattle.byte_io.specs.Puts.{PutsAll}
+use Rattle.byte_io.specs.Inlets.{Incoming}
 use Rattle.heap_server.specs.declared.client.Asked.{Asked}
 use Rattle.heap_server.specs.declared.client.Asked.TheVariants.{Done, ReadFault as Unread, WriteFault as Unwritten, NoMemory}
 use Rattle.heap_server.specs.declared.copy.Copied.{Copied}

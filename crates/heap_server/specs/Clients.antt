@@ -1,8 +1,8 @@
 -- What the session of a client does.
 use Rattle.std.specs.Prelude.{◌≡◌, ◌⊎◌, ℕ, ◌≤◌, Bool, true, false, List, [], Option, Some, None}
 use Rattle.std.specs.Io.KnownBytes.{prepend_known}
-use Rattle.dump_pump.specs.Inlets.{Incoming}
-use Rattle.dump_pump.specs.Outlets.{Outgoing}
+use Rattle.byte_io.specs.Inlets.{Incoming}
+use Rattle.byte_io.specs.Outlets.{Outgoing}
 use Rattle.secret_word.specs.Words.{IsBehindWord}
 use Rattle.session_text.specs.Answers.{AnswerRelation}
 use Rattle.session_text.specs.declared.limits.SessionLimits.{SessionLimits}

@@ -1,9 +1,9 @@
 -- What a copy does to an inlet and an outlet.
 use Rattle.std.specs.Prelude.{◌≡◌, ℕ, ◌+◌, List, ◌++◌}
 use Rattle.std.specs.Io.KnownBytes.{Keeps}
-use Rattle.dump_pump.specs.Outlets.{Outgoing}
-use Rattle.dump_pump.specs.Inlets.{Incoming, NothingLeft, whole}
-use Rattle.session_text.specs.Writes.{IsCutShort}
+use Rattle.byte_io.specs.Outlets.{Outgoing}
+use Rattle.byte_io.specs.Inlets.{Incoming, NothingLeft, whole}
+use Rattle.byte_io.specs.Puts.{IsCutShort}
 use Rattle.heap_server.specs.declared.copy.Copied.{Copied}
 use Rattle.heap_server.specs.declared.copy.Copied.TheVariants.{Whole, ReadFault, WriteFault}
 

@@ -1,7 +1,7 @@
 -- A session beside the page of its heap.
 use Rattle.std.specs.Prelude.{ℕ}
-use Rattle.dump_pump.specs.Inlets.{Incoming}
-use Rattle.dump_pump.specs.Outlets.{Outgoing}
+use Rattle.byte_io.specs.Inlets.{Incoming}
+use Rattle.byte_io.specs.Outlets.{Outgoing}
 use Rattle.session_text.specs.declared.Ended.{Ended}
 use Rattle.session_text.specs.Answers.{AnswerRelation, AnswersCommand, Begins}
 use Rattle.session_text.specs.Dumps.{Acts}

@@ -1,6 +1,6 @@
 -- What goes through a socket.
-use Rattle.dump_pump.specs.Inlets.{Incoming}
-use Rattle.dump_pump.specs.Outlets.{Outgoing}
+use Rattle.byte_io.specs.Inlets.{Incoming}
+use Rattle.byte_io.specs.Outlets.{Outgoing}
 
 -- what a socket gave since its two directions were taken apart, and what it was sent
 pub record Traffic : Type 0 where

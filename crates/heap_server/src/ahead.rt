@@ -1,19 +1,19 @@
 //! An inlet whose first line is read ahead.
 ghost use Rattle.std.specs.Prelude.{◌≡◌, ◌+◌, ◌≤◌, ◌<◌, ◌^◌, [], IfOk, drop, length, take, vec_capacity};
 ghost use Rattle.std.specs.Io.KnownBytes.{prepend_known};
-ghost use Rattle.dump_pump.specs.Inlets.{IsTriedRead, count_of};
-ghost use Rattle.dump_pump.specs.Outlets.{ghost_bytes};
+ghost use Rattle.byte_io.specs.Inlets.{IsTriedRead, count_of};
+ghost use Rattle.byte_io.specs.Outlets.{ghost_bytes};
 ghost use Rattle.session_text.specs.Buffers.{IsInletRead};
 ghost use Rattle.session_text.specs.Limits.{longest_line};
 ghost use Rattle.heap_server.specs.Ahead.{BeginsAhead, GoesOn, IsAhead, IsSeenBehind};
 ghost use Rattle.session_grammar.specs.declared.TheConstants.{LINE_LIMIT};
 
 use crate::http::line_end;
-use dump_pump::Log;
-use dump_pump::ghost_list::note_bytes;
-use dump_pump::inlet::count_of;
+use byte_io::ghost_list::note_bytes;
+use byte_io::inlet::count_of;
+use byte_io::{Inlet, Log, Take};
 use session_grammar::LINE_LIMIT;
-use session_text::{Inlet, SessionLimits, Take};
+use session_text::SessionLimits;
 use std::alloc::{AllocError, Global};
 use std::marker::{Brand, Model, PhantomData};
 
@@ -159,7 +159,7 @@ pub(crate) struct AheadInlet<I: Inlet + Drop, B: AheadOrigin> {
 impl<I: Inlet + Drop, B: AheadOrigin> Model for AheadInlet<I, B> {
     ghost use Rattle.std.specs.Prelude.{◌≡◌, drop, length, map};
     ghost use Rattle.std.specs.Io.KnownBytes.{prepend_known};
-    ghost use Rattle.dump_pump.specs.Outlets.{ghost_bytes};
+    ghost use Rattle.byte_io.specs.Outlets.{ghost_bytes};
     ghost use Rattle.heap_server.specs.Ahead.{AheadState, IsGivenUpTo};
 
     ghost Value = { AheadState };

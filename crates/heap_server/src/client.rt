@@ -4,10 +4,8 @@ ghost use Rattle.heap_server.specs.declared.client.Asked.TheVariants.{NoMemory};
 ghost use Rattle.heap_server.specs.ClientEndings.{AsksServer, Receives, Sends, SendsInput, SendsWord, asked_end};
 
 use crate::copy::{Copied, copy_all};
-use dump_pump::Outlet;
-use dump_pump::transfer::put_all;
+use byte_io::{Inlet, Outlet, put_all};
 use secret_word::Secret;
-use session_text::Inlet;
 use std::alloc::Global;
 use std::snapshot::Snapshot;
 use std::sync::atomic::{AtomicBool, Ordering};

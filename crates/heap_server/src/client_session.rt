@@ -6,8 +6,9 @@ ghost use Rattle.heap_server.specs.Clients.{Admits, ServesBehind, ServesClient, 
 use crate::ahead::{Ahead, AheadInlet, AheadOrigin};
 use crate::http::asks_http;
 use crate::sessions::Terms;
+use byte_io::{Inlet, Outlet};
 use secret_word::Secret;
-use session_text::{Commands, Ended, Inlet, Outlet, SessionLimits, serve};
+use session_text::{Commands, Ended, SessionLimits, serve};
 use std::alloc::Global;
 use std::marker::Brand;
 

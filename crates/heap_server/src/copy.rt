@@ -1,9 +1,7 @@
 //! Copies of what an inlet gives.
 ghost use Rattle.heap_server.specs.Copies.{Copies};
 
-use dump_pump::Outlet;
-use dump_pump::transfer::put_all;
-use session_text::{Inlet, Take};
+use byte_io::{Inlet, Outlet, Take, put_all};
 use std::sync::Wait;
 
 /// The most bytes that are taken at once.

@@ -3,11 +3,11 @@ ghost use Rattle.std.specs.Prelude.{◌≡◌, IfErr, IfNone, IfOk, IfSome};
 ghost use Rattle.heap_server.specs.PageSessions.{IsServedBeside};
 
 use crate::beside::Beside;
-use dump_pump::Outlet;
+use byte_io::{Inlet, Outlet};
 use heap_lock::{Heap, Shared};
 use heap_page::PagePort;
 use secret_word::Secret;
-use session_text::{Commands, Ended, Inlet, SessionLimits, serve};
+use session_text::{Commands, Ended, SessionLimits, serve};
 use std::alloc::{AllocError, Global};
 use std::sync::Wait;
 use std::sync::atomic::AtomicBool;

@@ -3,7 +3,7 @@ ghost use Rattle.std.specs.Prelude.{◌≡◌, [], IfOk};
 
 use crate::socket_outlet::SocketOutlet;
 use crate::time_limits::PATIENCE;
-use session_text::{Inlet, ReadInlet};
+use byte_io::{Inlet, ReadInlet};
 use std::alloc::{AllocError, Global};
 use std::io;
 use std::io::{ErrorKind, Read, Write};

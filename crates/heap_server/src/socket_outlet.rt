@@ -2,8 +2,8 @@
 ghost use Rattle.std.specs.Prelude.{◌≡◌, []};
 
 use crate::socket::Half;
-use dump_pump::ghost_list::note_bytes;
-use dump_pump::{Log, Outlet, Put, WriteOutlet};
+use byte_io::ghost_list::note_bytes;
+use byte_io::{Log, Outlet, Put, WriteOutlet};
 use std::marker::Model;
 
 /// An outlet that writes to a half of a socket. Other than `WriteOutlet` it may be given to another thread. Contracts see the bytes
@@ -17,7 +17,7 @@ pub struct SocketOutlet {
 
 impl Model for SocketOutlet {
     ghost use Rattle.std.specs.Prelude.{length};
-    ghost use Rattle.dump_pump.specs.Outlets.{Outgoing, ghost_bytes};
+    ghost use Rattle.byte_io.specs.Outlets.{Outgoing, ghost_bytes};
 
     ghost Value = { Outgoing };
 

@@ -1,6 +1,6 @@
 -- Heaps that are served after what is run first.
 use Rattle.std.proofs.Common.{◌≡◌, ◌∙◌, ℕ, ◌+◌, Bool, true, List, [], ◌∷◌, Option, None, Some, Result, Ok, Err, IfOk, ap, arith, inl, subst, sym}
-use Rattle.dump_pump.specs.Outlets.{Outgoing}
+use Rattle.byte_io.specs.Outlets.{Outgoing}
 use Rattle.session_text.specs.Answers.{AnswersCommand, Begins}
 use Rattle.session_text.specs.Limits.{session_limits}
 use Rattle.session_text.specs.declared.limits.SessionLimits.{SessionLimits}

@@ -1,8 +1,8 @@
 -- The outcomes of a fetch.
 use Rattle.std.specs.Prelude.{◌≡◌, ◌⊎◌, Bool, true, false, [], Result, Ok, Err}
-use Rattle.dump_pump.specs.Outlets.{Outgoing}
-use Rattle.dump_pump.specs.Inlets.{Incoming}
-use Rattle.session_text.specs.Writes.{IsTextWritten}
+use Rattle.byte_io.specs.Outlets.{Outgoing}
+use Rattle.byte_io.specs.Inlets.{Incoming}
+use Rattle.byte_io.specs.Puts.{IsTextWritten}
 use Rattle.dump_client.specs.Fetches.{IsFetched, fetch_line_of}
 use Rattle.dump_client.specs.declared.intake.Fetched.{Fetched}
 use Rattle.dump_client.specs.declared.intake.Finish.{Finish}

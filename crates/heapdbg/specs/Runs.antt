@@ -1,7 +1,7 @@
 -- A run of the program between its reader and its writer.
 use Rattle.std.specs.Prelude.{◌≡◌, ℕ, ◌⊎◌, Bool, true, List, Option, Result, None, Some, Err, is_some}
-use Rattle.dump_pump.specs.Outlets.{Outgoing}
-use Rattle.dump_pump.specs.Inlets.{Incoming}
+use Rattle.byte_io.specs.Outlets.{Outgoing}
+use Rattle.byte_io.specs.Inlets.{Incoming}
 use Rattle.private_tasks.specs.declared.failure.Fault.{Fault}
 use Rattle.private_tasks.specs.declared.failure.Fault.TheVariants.{Memory}
 use Rattle.private_tasks.specs.declared.failure.Failure.{Failure}

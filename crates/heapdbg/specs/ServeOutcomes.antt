@@ -1,9 +1,9 @@
 -- The outcomes of serving and asking.
 use Rattle.std.specs.Prelude.{◌≡◌, ℕ, ◌⊎◌, Bool, ◌||◌, true, false, List, [], Option, None, Some, Result, Ok, Err}
-use Rattle.dump_pump.specs.Inlets.{Incoming}
-use Rattle.dump_pump.specs.Outlets.{Outgoing}
+use Rattle.byte_io.specs.Inlets.{Incoming}
+use Rattle.byte_io.specs.Outlets.{Outgoing}
 use Rattle.session_text.specs.Limits.{session_limits}
-use Rattle.session_text.specs.Writes.{IsTextWritten}
+use Rattle.byte_io.specs.Puts.{IsTextWritten}
 use Rattle.heap_server.specs.Blanks.{Maker}
 use Rattle.heap_server.specs.Reports.{report_of}
 use Rattle.heap_server.specs.ClientEndings.{AsksServer}

@@ -4,11 +4,10 @@ ghost use Rattle.heap_server.specs.declared.client.Asked.TheVariants as ended;
 ghost use Rattle.heapdbg.specs.ServeOutcomes.{IsAskedAs, IsUnasked, asked_outcome};
 
 use crate::ports::connect;
-use dump_pump::Outlet;
+use byte_io::{Inlet, Outlet, ReadInlet};
 use heap_server::{Asked, Client, Half, SocketOutlet, ask, halves};
 use private_tasks::Fault;
 use secret_word::Secret;
-use session_text::{Inlet, ReadInlet};
 use std::net::{Net, TcpStream};
 use std::sync::Wait;
 use std::thread::Threads;

@@ -4,11 +4,10 @@ ghost use Rattle.dump_client.specs.Fetches.{IsFetched};
 ghost use Rattle.heapdbg.specs.FetchOutcomes.{IsFetchTold, IsUnfetched, fetched_outcome};
 
 use crate::ports::connect;
+use byte_io::{Inlet, Outlet, ReadInlet, WriteOutlet};
 use dump_client::{Fetched, Finish, fetch, say_word, write_last};
-use dump_pump::{Outlet, WriteOutlet};
 use private_tasks::{Fault, ProgressLine, tell_path};
 use secret_word::Secret;
-use session_text::{Inlet, ReadInlet};
 use std::fs;
 use std::fs::Files;
 use std::io::{Read, Write};

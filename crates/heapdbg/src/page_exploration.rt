@@ -12,11 +12,11 @@ ghost use Rattle.heapdbg.specs.PageExplorations.{IsMadeFor, IsPageExplored, IsPa
 
 use crate::ports::page_port;
 use crate::watched_seat::WatchedSeat;
-use dump_pump::Outlet;
+use byte_io::{Inlet, Outlet};
 use heap_server::{Blank, Heap, PagePort, Seat, Seats, serve_beside_page, users};
 use heapdbg_options::settings::{Origin, Settings, config};
 use private_tasks::{Fault, Request, Screen, outcome, run_first};
-use session_text::{Inlet, session_limits};
+use session_text::session_limits;
 use std::alloc::Global;
 use std::fs::Files;
 use std::marker::Brand;

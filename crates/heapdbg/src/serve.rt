@@ -9,12 +9,12 @@ ghost use Rattle.heapdbg.specs.ServeOutcomes.{AreEndsTold, IsReportTold, IsServe
 
 use crate::ports::{dump_listener, listener, page_port};
 use crate::served_heap::{HeapServed, Sessions, serve_blank};
-use dump_pump::Outlet;
+use byte_io::{Outlet, write_all};
 use heap_server::{Blank, Ports, Refusal, Served, Terms, tell_sessions, workers_and_users};
 use heapdbg_options::settings::{Service, Settings, config};
 use private_tasks::{Fault, Request};
 use secret_word::Secret;
-use session_text::{session_limits, write_all};
+use session_text::session_limits;
 use std::alloc::Global;
 use std::fs::Files;
 use std::net::{Net, TcpListener, TcpStream};

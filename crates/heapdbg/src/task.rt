@@ -14,7 +14,7 @@ use crate::fetch::{FetchEnd, fetch_port};
 use crate::page_exploration::explore_with_page;
 use crate::serve::serve_port;
 use answer_ticker::{TickedInlet, TickedOutlet, Ticker};
-use dump_pump::{Outlet, WriteOutlet};
+use byte_io::{Inlet, Outlet, ReadInlet, WriteOutlet};
 use heap_console::{
     ColumnOutlet, Console, LineInlet, LoggedInlet, LoggedOutlet, NewestLine, NotingOutlet,
     PromptInlet, SessionLog,
@@ -32,7 +32,6 @@ use private_tasks::{
     tell_path,
 };
 use secret_word::Secret;
-use session_text::{Inlet, ReadInlet};
 use std::alloc::Global;
 use std::fs::Files;
 use std::io::{Error, ErrorKind};

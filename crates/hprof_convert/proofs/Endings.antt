@@ -2,7 +2,7 @@
 use Rattle.std.proofs.Common.{ℕ, Bool, List, [], Option, Some, None, refl, sym, arith}
 use Rattle.std.proofs.lemmas.List.{append-nil}
 use Rattle.heap_class.specs.Limits.{widest_classes}
-use Rattle.dump_pump.specs.Outlets.{Outgoing}
+use Rattle.byte_io.specs.Outlets.{Outgoing}
 use Rattle.hprof_reader.specs.declared.fault.Fault.{Fault}
 use Rattle.hprof_session.specs.Surveys.{EndsAt}
 use Rattle.hprof_session.specs.Walks.{Left, ItemTold, IsNext}

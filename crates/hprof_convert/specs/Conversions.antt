@@ -1,7 +1,7 @@
 -- Sessions of dumps.
 use Rattle.std.specs.Prelude.{◌≡◌, ◌⊎◌, ◌++◌, ◌<◌, ◌^◌, ℕ, Bool, List, [], Result, Ok, Err, if◌then◌else◌}
 use Rattle.heap_class.specs.Limits.{array_limit, large_array_limit, widest_classes}
-use Rattle.dump_pump.specs.Outlets.{Outgoing}
+use Rattle.byte_io.specs.Outlets.{Outgoing}
 use Rattle.hprof_reader.specs.Headers.{header_text}
 use Rattle.hprof_reader.specs.declared.header.Header.{Header}
 use Rattle.hprof_session.specs.Walks.{Left, ItemTold}

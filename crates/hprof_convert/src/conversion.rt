@@ -6,7 +6,7 @@ ghost use Rattle.hprof_plan.specs.Finds.{Finds};
 ghost use Rattle.hprof_plan.specs.Plans.{IsPlan};
 ghost use Rattle.hprof_convert.specs.Conversions.{IsConversion, IsConverted, elements_with};
 
-use dump_pump::Outlet;
+use byte_io::Outlet;
 use heap_class::WIDEST_CLASSES;
 use hprof_lines::{LeftOut, count_left_out, write_session};
 use hprof_plan::{Found, Plan, Statics, find, plan_classes};

@@ -6,7 +6,7 @@
 
 mod report;
 
-use dump_pump::WriteOutlet;
+use byte_io::WriteOutlet;
 use hprof_convert::{Converted, Failure, convert, tell_left_out};
 use hprof_pair::{BothConverted, PairFailure, convert_pair};
 use report::{tell_path, usage};

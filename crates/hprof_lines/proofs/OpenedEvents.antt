@@ -1,7 +1,7 @@
 -- Events of lists, one item after another.
 use Rattle.std.proofs.Common.{◌≡◌, ℕ, ◌+◌, ◌<◌, ◌≤◌, Bool, List, [], ◌∷◌, ◌++◌, length, drop, get_or, refl, sym, ap, subst, ◌∙◌, append_assoc, add-one, drop-cons}
 use Rattle.std.proofs.lemmas.List.{append-nil, drop_all}
-use Rattle.dump_pump.specs.Outlets.{Outgoing}
+use Rattle.byte_io.specs.Outlets.{Outgoing}
 use Rattle.heap_step.specs.declared.Event.TheVariants.{NewArray}
 use Rattle.hprof_session.specs.Places.{lines_of}
 use Rattle.hprof_lines.specs.declared.passes.Pass.{Pass}

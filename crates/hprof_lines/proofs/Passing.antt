@@ -1,7 +1,7 @@
 -- Passes, item by item.
 use Rattle.std.proofs.Common.{◌≡◌, ℕ, ◌+◌, Bool, true, false, cond, List, [], ◌∷◌, ◌++◌, length, refl, sym, ap, subst, ◌∙◌, append_assoc, arith}
 use Rattle.std.proofs.lemmas.List.{append-nil, length-append}
-use Rattle.dump_pump.specs.Outlets.{Outgoing}
+use Rattle.byte_io.specs.Outlets.{Outgoing}
 use Rattle.hprof_session.specs.Walks.{Left, ItemTold, record_told, sub_told}
 use Rattle.hprof_session.specs.Places.{lines_of}
 use Rattle.hprof_lines.specs.declared.passes.Pass.{Pass}

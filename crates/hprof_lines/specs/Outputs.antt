@@ -1,7 +1,7 @@
 -- What lines put out leave at an outlet.
 use Rattle.std.specs.Prelude.{◌≡◌, ℕ, ◌+◌, ◌≤◌, Bool, true, false, List, ◌++◌, length, Result, Ok, Err}
 use Rattle.std.specs.declared.alloc.AllocError.{AllocError}
-use Rattle.dump_pump.specs.Outlets.{Outgoing}
+use Rattle.byte_io.specs.Outlets.{Outgoing}
 
 -- all of these bytes were put out, and no put failed
 pub record Puts (old new : Outgoing) (text : List ℕ) : Type 0 where

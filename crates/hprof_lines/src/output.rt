@@ -2,8 +2,7 @@
 ghost use Rattle.std.specs.Prelude.{◌≡◌, []};
 ghost use Rattle.hprof_lines.specs.Outputs.{PutsOr, PutsSome};
 
-use dump_pump::Outlet;
-use dump_pump::transfer::put_all;
+use byte_io::{Outlet, put_all};
 use session_lines::Lines;
 
 // The number of bytes from which on lines are put out.

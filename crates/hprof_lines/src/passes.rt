@@ -12,7 +12,7 @@ use crate::objects::{Objects, made_at, making_event, push_links, push_object};
 use crate::output::{put_lines, put_some};
 use crate::slots::read_object;
 use crate::values::SlotValue;
-use dump_pump::Outlet;
+use byte_io::Outlet;
 use hprof_plan::Plan;
 use hprof_reader::SubRecord;
 use hprof_session::{Item, PLACES, Walk, item_at};

@@ -7,7 +7,7 @@ ghost use Rattle.hprof_lines.specs.Roots.{arrays_for, clear_event, kind_events, 
 
 use crate::objects::{Objects, number_of};
 use crate::output::{put_lines, put_some};
-use dump_pump::Outlet;
+use byte_io::Outlet;
 use heap_step::Event;
 use hprof_plan::RootFound;
 use hprof_reader::tags::{

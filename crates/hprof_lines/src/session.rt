@@ -13,7 +13,7 @@ use crate::output::put_text;
 use crate::passes::{Pass, made_objects, write_pass};
 use crate::roots::{ROOT_TAGS, write_roots};
 use crate::static_objects::write_statics;
-use dump_pump::Outlet;
+use byte_io::Outlet;
 use hprof_plan::{Plan, RootFound, Statics};
 use hprof_session::Walk;
 use id_table::IdTable;

@@ -9,7 +9,7 @@ use crate::objects::{Objects, push_links, push_made};
 use crate::output::{put_lines, put_some};
 use crate::passes::Pass;
 use crate::values::{SlotValue, add_statics};
-use dump_pump::Outlet;
+use byte_io::Outlet;
 use heap_step::Event;
 use hprof_plan::Statics;
 use hprof_session::{MADE, push_place};

@@ -1,6 +1,6 @@
 -- A second dump after a first.
 use Rattle.std.proofs.Common.{◌≡◌, inl, inr, ℕ, Result, Bool, List, ◌++◌}
-use Rattle.dump_pump.specs.Outlets.{Outgoing}
+use Rattle.byte_io.specs.Outlets.{Outgoing}
 use Rattle.hprof_reader.specs.Headers.{header_text}
 use Rattle.hprof_reader.specs.declared.header.Header.{Header}
 use Rattle.hprof_convert.specs.Conversions.{walk_after}

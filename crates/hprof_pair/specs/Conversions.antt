@@ -1,6 +1,6 @@
 -- Sessions of two dumps, put out.
 use Rattle.std.specs.Prelude.{◌≡◌, ◌⊎◌, ◌++◌, ℕ, Bool, List, Result, Ok, Err}
-use Rattle.dump_pump.specs.Outlets.{Outgoing}
+use Rattle.byte_io.specs.Outlets.{Outgoing}
 use Rattle.hprof_reader.specs.Headers.{header_text}
 use Rattle.hprof_reader.specs.declared.header.Header.{Header}
 use Rattle.hprof_session.specs.Walks.{Left}

@@ -17,7 +17,7 @@ use crate::known::{KnownDump, KnownPair, know, know_both};
 use crate::left_out::{Lost, count_lost};
 use crate::pair::Pair;
 use crate::session::write_second;
-use dump_pump::Outlet;
+use byte_io::Outlet;
 use heap_class::IdSize;
 use hprof_convert::{Converted, elements_with, left_out_of};
 use hprof_lines::{count_left_out, write_session};

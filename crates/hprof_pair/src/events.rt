@@ -15,7 +15,7 @@ use crate::changes::{Changes, push_changes};
 use crate::pair::Pair;
 use crate::shapes::{Shape, making};
 use crate::ways::{Hold, Way};
-use dump_pump::Outlet;
+use byte_io::Outlet;
 use heap_step::Event;
 use hprof_lines::{put_lines, put_some};
 use hprof_session::{MADE, PLACES, push_fetch, push_keep, push_place};

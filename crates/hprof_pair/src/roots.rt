@@ -7,7 +7,7 @@ ghost use Rattle.hprof_pair.specs.Events.{root_named, roots_events, roots_named}
 ghost use Rattle.hprof_pair.specs.Pairs.{pair_told};
 
 use crate::pair::Pair;
-use dump_pump::Outlet;
+use byte_io::Outlet;
 use heap_step::Event;
 use hprof_lines::{push_clears, push_roots, put_lines, put_some};
 use hprof_plan::RootFound;

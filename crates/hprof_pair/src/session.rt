@@ -12,7 +12,7 @@ use crate::events::{write_changes, write_made, write_shelves, write_ways};
 use crate::pair::Pair;
 use crate::roots::write_roots;
 use crate::ways::Way;
-use dump_pump::Outlet;
+use byte_io::Outlet;
 use hprof_lines::{ROOT_TAGS, put_text};
 use hprof_plan::RootFound;
 use std::alloc::{AllocError, Global};

@@ -1,5 +1,5 @@
 //! Sessions of the smallest dumps, worked out by hand.
-use dump_pump::WriteOutlet;
+use byte_io::WriteOutlet;
 use hprof_convert::{Converted, Failure, convert};
 use std::test::*;
 

@@ -1,5 +1,5 @@
 //! The session of two small dumps, worked out by hand.
-use dump_pump::WriteOutlet;
+use byte_io::WriteOutlet;
 use hprof_pair::{PairFailure, convert_pair};
 use std::test::*;
 

@@ -1,5 +1,5 @@
 //! The session of a small dump, worked out by hand.
-use dump_pump::WriteOutlet;
+use byte_io::WriteOutlet;
 use heap_class::{Classes, Field, Fields, IdSize, Kind, Name, NewClass, WIDEST_CLASSES};
 use hprof_lines::{LeftOut, count_left_out, write_session};
 use hprof_plan::{Plan, RootFound, Statics};

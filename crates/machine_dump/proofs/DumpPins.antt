@@ -23,14 +23,14 @@ use Rattle.heap_trail.specs.Pins.{PinState, Kept, AreNumbered, pin_at, is_retain
 use Rattle.heap_trail.specs.Machine.{Machine, MayFail, unless, after_open, after_close, acted, is_accepted}
 use Rattle.dump_pump.specs.declared.transfer.Pumped.{Pumped}
 use Rattle.dump_pump.specs.declared.transfer.Pumped.TheVariants.{Done, OutletFailed, Lost, Cancelled}
-use Rattle.dump_pump.specs.Outlets.{Outgoing}
+use Rattle.byte_io.specs.Outlets.{Outgoing}
 use Rattle.dump_pump.specs.Pumps.{joined, ends}
 use Rattle.machine_dump.specs.HandedPieces.{handed, ungiven}
 use Rattle.machine_dump.specs.SourceEnds.{cause_of, may_lose}
 use Rattle.machine_dump.specs.PinDumps.{FitsPin, FitsText, DumpsUnless, IsPlaceDumped, PutsPin, PutsText, with_number_used}
 use Rattle.machine_dump.proofs.UngivenMachines.{state_in, zero_state, zeroed_states_are_alike, zeroed_open_pin_was_open, other_pins_of_ungiven_machine}
 use Rattle.machine_dump.proofs.Texts.{pin_pieces_are_text}
-use Rattle.dump_pump.proofs.LongerLists.{prefix_of_prefix_is_prefix}
+use Rattle.byte_io.proofs.LongerLists.{prefix_of_prefix_is_prefix}
 
 -- ---- a pin behind those with smaller numbers
 

@@ -7,7 +7,7 @@ use Rattle.hprof_text.specs.declared.Piece.{Piece}
 use Rattle.dump_pump.specs.declared.source.SourceEnd.{SourceEnd}
 use Rattle.dump_pump.specs.declared.transfer.Pumped.{Pumped}
 use Rattle.dump_pump.specs.declared.transfer.Pumped.TheVariants.{Done, OutletFailed, Lost, Cancelled}
-use Rattle.dump_pump.specs.Outlets.{Outgoing}
+use Rattle.byte_io.specs.Outlets.{Outgoing}
 use Rattle.dump_pump.specs.Sources.{Supply}
 use Rattle.dump_pump.specs.Pumps.{FitsPump, IsPumped, joined, ends}
 use Rattle.heap_trail.specs.Pins.{PinState, Kept, Gone, pin_at}

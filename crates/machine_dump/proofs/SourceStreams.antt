@@ -13,7 +13,7 @@ use Rattle.dump_pump.specs.declared.source.SourceEnd.{SourceEnd}
 use Rattle.dump_pump.specs.declared.transfer.Pumped.{Pumped}
 use Rattle.dump_pump.specs.declared.transfer.Pumped.TheVariants.{Lost}
 use Rattle.dump_pump.specs.declared.source.Next.{Next}
-use Rattle.dump_pump.specs.Outlets.{Outgoing}
+use Rattle.byte_io.specs.Outlets.{Outgoing}
 use Rattle.dump_pump.specs.Sources.{Supply, IsNextPart}
 use Rattle.dump_pump.specs.Pumps.{IsPumped}
 use Rattle.dump_pipe.specs.Streams.{IsStreamed}

@@ -11,7 +11,7 @@ use Rattle.heap_trail.specs.Pins.{PinState, Kept, pin_at, open_refusal}
 use Rattle.heap_trail.specs.Machine.{Machine}
 use Rattle.dump_pump.specs.declared.transfer.Pumped.{Pumped}
 use Rattle.dump_pump.specs.declared.transfer.Pumped.TheVariants.{Done, OutletFailed, Lost, Cancelled}
-use Rattle.dump_pump.specs.Outlets.{Outgoing}
+use Rattle.byte_io.specs.Outlets.{Outgoing}
 use Rattle.dump_pump.specs.Pumps.{joined, ends, bytes_of}
 use Rattle.machine_dump.specs.HandedPieces.{handed}
 use Rattle.machine_dump.specs.SourceEnds.{may_lose}

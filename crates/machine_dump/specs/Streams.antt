@@ -3,7 +3,7 @@ use Rattle.std.specs.Prelude.{◌≡◌, ◌⊎◌, ℕ}
 use Rattle.heap_class.specs.declared.LostCause.TheVariants.{Memory}
 use Rattle.dump_pump.specs.declared.transfer.Pumped.{Pumped}
 use Rattle.dump_pump.specs.declared.transfer.Pumped.TheVariants.{Lost}
-use Rattle.dump_pump.specs.Outlets.{Outgoing}
+use Rattle.byte_io.specs.Outlets.{Outgoing}
 use Rattle.heap_trail.specs.Machine.{Machine}
 use Rattle.machine_dump.specs.PinDumps.{PutsPin}
 

@@ -1,8 +1,8 @@
 //! Gauges, which see a dump go out.
 ghost use Rattle.std.specs.Prelude.{◌≡◌};
 
+use byte_io::{Outlet, Put};
 use dump_pipe::{Progress, ReadSeat};
-use dump_pump::{Outlet, Put};
 use heap_trail::Machine;
 
 /// A gauge, which sees a dump go out, such as a line on a terminal. It is asked by the thread that puts the dump out. No

@@ -7,8 +7,9 @@ ghost use Rattle.machine_dump.specs.PinDumps.{PutsPin};
 ghost use Rattle.machine_dump.specs.HandedPieces.{ungiven};
 
 use crate::fresh_source::FreshSource;
+use byte_io::Outlet;
 use dump_pipe::{Counter, stream_batched};
-use dump_pump::{Outlet, Pumped};
+use dump_pump::Pumped;
 use std::alloc::Global;
 use std::sync::Wait;
 use std::thread::Threads;

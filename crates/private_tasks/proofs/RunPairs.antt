@@ -1,7 +1,7 @@
 -- Sessions of two dumps that were run.
 use Rattle.std.proofs.Common.{◌≡◌, Bool, List, [], ℕ, Option, Some, None, Result, Ok, Err, IfOk, arith, inl, inr, refl, subst, sym}
 use Rattle.std.specs.Prelude.{IfErr, IsOk}
-use Rattle.dump_pump.specs.Outlets.{Outgoing}
+use Rattle.byte_io.specs.Outlets.{Outgoing}
 use Rattle.session_text.specs.Answers.{AnswerRelation}
 use Rattle.session_text.specs.declared.Ended.{Ended}
 use Rattle.session_text.specs.declared.Ended.TheVariants.{Quit, Eof, CutLine, TooLong, ReadFault, TooManyReads, WriteFault, NoMemory}

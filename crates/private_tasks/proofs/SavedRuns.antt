@@ -2,10 +2,10 @@
 use Rattle.std.proofs.Common.{◌≡◌, ℕ, refl, subst, Bool, true, false, Option, Some, None}
 use Rattle.std.specs.Prelude.{is_some, option_map}
 use Rattle.dump_pump.specs.declared.transfer.Pumped.{Pumped}
-use Rattle.dump_pump.specs.Outlets.{Outgoing}
+use Rattle.byte_io.specs.Outlets.{Outgoing}
 use Rattle.session_text.specs.Machine.{Machine, opening_machine}
 use Rattle.session_text.specs.declared.Ended.{Ended}
-use Rattle.dump_pump.specs.Inlets.{Incoming}
+use Rattle.byte_io.specs.Inlets.{Incoming}
 use Rattle.session_text.specs.Endings.{EndsSession}
 use Rattle.session_text.specs.Limits.{is_whole_session, session_limits}
 use Rattle.session_text.specs.Session.{IsSession}

@@ -1,6 +1,6 @@
 -- What a session with questions does between its reader and its writer.
 use Rattle.std.specs.Prelude.{◌≡◌, ◌⊎◌, ⊤, ℕ, Bool, List, Option, Some, None, Result, Ok, Err, min, nat_lt}
-use Rattle.dump_pump.specs.Outlets.{Outgoing}
+use Rattle.byte_io.specs.Outlets.{Outgoing}
 use Rattle.heap_console.specs.Loads.{IsLoaded, IsTextEndedFrom, IsTextLoaded}
 use Rattle.heap_files.specs.Files.{FolderActs}
 use Rattle.heap_files.specs.Filings.{ServesFiling}
@@ -16,7 +16,7 @@ use Rattle.session_text.specs.declared.Ended.TheVariants.{Quit, Eof, CutLine, To
 use Rattle.session_text.specs.Endings.{EndsSession}
 use Rattle.session_text.specs.Limits.{session_limits}
 use Rattle.session_text.specs.declared.limits.SessionLimits.{SessionLimits}
-use Rattle.dump_pump.specs.Inlets.{Incoming}
+use Rattle.byte_io.specs.Inlets.{Incoming}
 use Rattle.private_tasks.specs.declared.failure.Fault.{Fault}
 use Rattle.private_tasks.specs.declared.failure.Fault.TheVariants.{Cut, From, Hprof, Memory, Read, Reads, Write}
 use Rattle.heapdbg_options.specs.CommandLine.{limits_of}

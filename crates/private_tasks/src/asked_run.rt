@@ -7,10 +7,10 @@ use crate::failure::{Fault, outcome};
 use crate::first_lines::run_first;
 use crate::request::Request;
 use crate::terminals::Screen;
-use dump_pump::Outlet;
+use byte_io::{Inlet, Outlet};
 use heapdbg_options::settings::{Origin, Settings};
 use question_text::{Asking, serve_asking};
-use session_text::{Inlet, session_limits};
+use session_text::session_limits;
 use std::fs::Files;
 use std::time::Clock;
 

@@ -3,7 +3,7 @@ ghost use Rattle.std.specs.Prelude.{◌≡◌};
 
 use crate::first_lines::open_lines;
 use crate::reasons::{tell_path, tell_reason};
-use dump_pump::{ReadInlet, WriteOutlet};
+use byte_io::{ReadInlet, WriteOutlet};
 use heap_console::SessionLog;
 use heap_files::Folder;
 use std::fs::{File, Files};

@@ -10,9 +10,9 @@ use crate::first_lines::run_first;
 use crate::opening::open_local;
 use crate::request::Request;
 use crate::terminals::Screen;
-use dump_pump::Outlet;
+use byte_io::{Inlet, Outlet};
 use heapdbg_options::settings::{Origin, Settings};
-use session_text::{Inlet, Local, serve_local, session_limits};
+use session_text::{Local, serve_local, session_limits};
 use std::fs::Files;
 use std::time::Clock;
 

@@ -7,12 +7,13 @@ ghost use Rattle.private_tasks.specs.SaveOutcomes.{IsSavedTo, IsSavedWith, save_
 use crate::explore::open;
 use crate::failure::{Fault, outcome};
 use crate::reasons::{tell_path, tell_port};
-use dump_pump::{Outlet, Pumped, WriteOutlet};
+use byte_io::{Inlet, Outlet, WriteOutlet};
+use dump_pump::Pumped;
 use heap_save::{LastDump, Outlets, Saved};
 use heapdbg_options::settings::Settings;
 use machine_dump::Gauge;
 use question_text::{Asking, Watch, serve_asking};
-use session_text::{Ended, Inlet, session_limits};
+use session_text::{Ended, session_limits};
 use std::fs;
 use std::fs::Files;
 use std::net::{Ipv4Addr, Net, TcpStream};

@@ -7,8 +7,8 @@ use Rattle.heap_class.specs.declared.IdSize.{IdSize}
 use Rattle.hprof_text.specs.Image.{Image}
 use Rattle.hprof_text.specs.declared.Piece.{Piece}
 use Rattle.hprof_text.specs.Segments.{dump_text, piece_of, pieces_of}
-use Rattle.session_text.specs.Outlets.{Outgoing}
-use Rattle.session_text.specs.Writes.{IsTextWritten}
+use Rattle.byte_io.specs.Outlets.{Outgoing}
+use Rattle.byte_io.specs.Puts.{IsTextWritten}
 use Rattle.session_text.proofs.AnsweredLines.{two_texts_written_in_turn}
 use Rattle.question_text.specs.StateDumps.{IsDumpPut}
 use Rattle.question_text.specs.declared.state_dump.DumpCut.TheVariants.{Memory}

@@ -14,11 +14,11 @@ use Rattle.session_grammar.specs.Reads.{DefinesClass}
 use Rattle.session_text.specs.declared.Ended.TheVariants.{Eof}
 use Rattle.session_text.specs.declared.ReadEnd.TheVariants.{Over}
 use Rattle.session_text.specs.Session.{AllocationsFit, session_of}
-use Rattle.session_text.specs.Outlets.{Outgoing}
+use Rattle.byte_io.specs.Outlets.{Outgoing}
 use Rattle.session_text.specs.declared.Ended.{Ended}
 use Rattle.session_text.specs.Answers.{AnswerRelation, AnswersCommand, Begins}
 use Rattle.session_text.specs.Dumps.{Acts}
-use Rattle.session_text.specs.Inlets.{Incoming}
+use Rattle.byte_io.specs.Inlets.{Incoming}
 use Rattle.session_text.specs.Local.{LocalActs}
 use Rattle.session_text.specs.Talks.{IsLine, Serves, stream}
 use Rattle.session_text.specs.declared.limits.SessionLimits.{SessionLimits}

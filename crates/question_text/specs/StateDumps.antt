@@ -8,8 +8,8 @@ use Rattle.hprof_text.specs.Image.{Image}
 use Rattle.hprof_text.specs.Segments.{dump_text, piece_of}
 use Rattle.hprof_text.specs.declared.Cursor.{Cursor}
 use Rattle.hprof_text.specs.declared.Piece.{Piece}
-use Rattle.session_text.specs.Outlets.{Outgoing}
-use Rattle.session_text.specs.Writes.{IsTextWritten}
+use Rattle.byte_io.specs.Outlets.{Outgoing}
+use Rattle.byte_io.specs.Puts.{IsTextWritten}
 use Rattle.question_words.specs.declared.at.At.{At}
 use Rattle.question_words.specs.Moments.{image_at}
 use Rattle.question_text.specs.declared.state_dump.DumpCut.{DumpCut}

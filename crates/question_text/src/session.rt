@@ -4,7 +4,8 @@ ghost use Rattle.session_text.specs.Endings.{EndsSession};
 ghost use Rattle.question_text.specs.Sessions.{ServesAsking};
 
 use crate::asking::Asking;
-use session_text::{Ended, Inlet, Outlet, SessionLimits, serve};
+use byte_io::{Inlet, Outlet};
+use session_text::{Ended, SessionLimits, serve};
 use std::alloc::Global;
 
 /// Serves a session of a private machine as `serve` does: each line of the grammar of sessions is answered as without questions,

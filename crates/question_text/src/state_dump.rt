@@ -5,11 +5,11 @@ ghost use Rattle.hprof_text.specs.Segments.{dump_text};
 ghost use Rattle.question_words.specs.Moments.{IsRefusedAt, image_at};
 ghost use Rattle.question_text.specs.StateDumps.{IsBegun, IsDumpAt, IsDumpPut};
 
+use byte_io::{Outlet, write_all};
 use heap_class::Refusal;
 use heap_trail::Machine;
 use hprof_text::{Cursor, PIECE_LIMIT, Piece, View, piece_from, pieces_few, text_len};
 use question_words::{At, moment_at, view_of};
-use session_text::{Outlet, write_all};
 use std::alloc::Global;
 
 /// Returns the dump of the state that a question may be about, as HPROF, with this time in its header, in milliseconds since 1970.

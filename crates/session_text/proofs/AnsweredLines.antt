@@ -6,7 +6,7 @@ use Rattle.std.specs.Bool.{◌==◌}
 use Rattle.std.proofs.lemmas.Grind.{flat_map-append}
 use Rattle.std.specs.Prelude.{All}
 use Rattle.std.specs.Io.KnownBytes.{Keeps}
-use Rattle.dump_pump.specs.Outlets.{Outgoing}
+use Rattle.byte_io.specs.Outlets.{Outgoing}
 use Rattle.heap_class.specs.declared.Refusal.TheVariants.{NoMemory as NoRoom}
 use Rattle.heap_trail.specs.declared.Reply.TheVariants.{Refused}
 use Rattle.session_text.specs.declared.Ended.{Ended}
@@ -23,12 +23,13 @@ use Rattle.session_text.specs.Answers.{Reaction, AnswerRelation, AnswersTo, Begi
 use Rattle.session_text.specs.Dumps.{Acts, DumpsPin, WritesDump}
 use Rattle.session_text.specs.Endings.{EndsSession, ended_of, flow_of}
 use Rattle.session_grammar.specs.Grammar.{command_of}
-use Rattle.dump_pump.specs.Inlets.{Incoming, whole}
+use Rattle.byte_io.specs.Inlets.{Incoming, whole}
 use Rattle.session_grammar.specs.Lines.{NoLf, IsLineAt}
 use Rattle.session_grammar.specs.Reads.{TakesMemory}
 use Rattle.session_text.specs.Replies.{reply_text}
 use Rattle.session_text.specs.Talks.{AreFirstAnswered, AreLinesAnswered, IsFirst, IsFirstCut, IsLine, IsLong, AnswersAll, stream, IsTalk, BeginsWith, IsQuit, IsLineFlow, EndsCleanly, FailsWhileWriting, IsTruncatedRun, IsLastRead, IsSessionServed, Serves}
-use Rattle.session_text.specs.Writes.{IsCutShort, IsTextWritten, IsTextAdded}
+use Rattle.byte_io.specs.Puts.{IsCutShort, IsTextWritten}
+use Rattle.session_text.specs.Writes.{IsTextAdded}
 use Rattle.session_text.proofs.PageTexts.{text_added_to_page_alone, texts_added_in_turn}
 
 -- ---- one text and then another

@@ -8,7 +8,7 @@ use Rattle.heap_trail.specs.declared.Action.{Action}
 use Rattle.heap_trail.specs.declared.Action.TheVariants.{OpenPin, NextPiece}
 use Rattle.heap_trail.specs.declared.Reply.{Reply}
 use Rattle.heap_trail.specs.Machine.{Machine, Allocation, MayStand}
-use Rattle.dump_pump.specs.Piece.{Piece as GivenPiece}
+use Rattle.hprof_text.specs.declared.Piece.{Piece as GivenPiece}
 use Rattle.session_text.specs.declared.Ended.{Ended}
 use Rattle.session_text.specs.declared.ReadEnd.{ReadEnd}
 use Rattle.session_text.specs.declared.ReadEnd.TheVariants.{Over, Failed, Spent}
@@ -24,7 +24,7 @@ use Rattle.session_grammar.specs.Grammar.{command_of}
 use Rattle.session_text.specs.Replies.{reply_text, data_lines, piece_in, pin_in}
 use Rattle.session_text.specs.Session.{Talk, wrote, allocation_of, allocations_after, done_quietly, done, after_reply, pieces_dumped, closed, after_open_reply, after_up_to, after_command, go_on, FitsAction, FitsRest, FitsDump, FitsOpen, FitsCommand, FitLines, at_read_end, at_long, talked}
 use Rattle.session_text.proofs.SessionCommands.{talk, acts, action_done_under_its_allocation, equal_talk_at_moved_machine, dump_talks_so, close_has_plain_allocation, pin_closed_under_any_allocations, command_goes_on_to_more, answered_command_follows}
-use Rattle.dump_pump.proofs.LongerLists.{prefix_of_prefix_is_prefix}
+use Rattle.byte_io.proofs.LongerLists.{prefix_of_prefix_is_prefix}
 
 -- ---- with no allocations left, each action gets its memory
 

@@ -2,12 +2,12 @@
 use Rattle.std.proofs.Common.{◌≡◌, ℕ, zero, suc, ◌+◌, ◌-◌, ◌<◌, ◌≤◌, inl, inr, Bool, true, false, List, [], ◌∷◌, ◌++◌, take, drop, length, refl, ap, sym, ◌∙◌, subst, arith, append_assoc, Some, None}
 use Rattle.std.proofs.lemmas.List.{append-nil, length-drop, take_all, drop_all}
 use Rattle.std.specs.Prelude.{flat_map, min}
-use Rattle.dump_pump.specs.Outlets.{Outgoing}
+use Rattle.byte_io.specs.Outlets.{Outgoing}
 use Rattle.heap_trail.specs.declared.Action.TheVariants.{OpenPin, NextPiece, ClosePin}
 use Rattle.heap_trail.specs.declared.Reply.{Reply}
 use Rattle.heap_trail.specs.declared.Reply.TheVariants.{Answered, Place, Pinned, Part, Closed, Refused}
 use Rattle.heap_trail.specs.Machine.{IsSmall}
-use Rattle.dump_pump.specs.Piece.{Piece}
+use Rattle.hprof_text.specs.declared.Piece.{Piece}
 use Rattle.hprof_text.specs.Laws.{piece_limit, piece_size_limit}
 use Rattle.session_text.specs.Replies.{reply_text, data_line, data_lines, chunks_of_64, piece_in, pin_in}
 use Rattle.session_text.specs.Writes.{IsTextAdded}

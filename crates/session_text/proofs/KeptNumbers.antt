@@ -1,7 +1,7 @@
 -- A number that no action and no line that the grammar doesn't know changes is changed by no session.
 use Rattle.std.proofs.Common.{◌≡◌, ℕ, zero, suc, inl, inr, List, [], ◌∷◌, ap, ◌∙◌, Option, Some, None}
-use Rattle.dump_pump.specs.Outlets.{Outgoing}
-use Rattle.dump_pump.specs.Piece.{Piece as GivenPiece}
+use Rattle.byte_io.specs.Outlets.{Outgoing}
+use Rattle.hprof_text.specs.declared.Piece.{Piece as GivenPiece}
 use Rattle.heap_trail.specs.declared.Action.{Action}
 use Rattle.heap_trail.specs.declared.Reply.{Reply}
 use Rattle.session_text.specs.declared.limits.SessionLimits.{SessionLimits}
@@ -13,7 +13,7 @@ use Rattle.session_text.specs.declared.commands.Local.{Local}
 use Rattle.session_text.specs.Answers.{AnswerRelation, AnswersCommand, Begins, AnswersTo, BeginsTo, Reaction, all_bad}
 use Rattle.session_text.specs.Dumps.{Acts, DumpsOn, Dumps, ClosesAfter}
 use Rattle.hprof_text.specs.Laws.{piece_limit}
-use Rattle.dump_pump.specs.Inlets.{Incoming}
+use Rattle.byte_io.specs.Inlets.{Incoming}
 use Rattle.session_text.specs.Replies.{piece_in, pin_in}
 use Rattle.session_text.specs.Talks.{AnswersAll, FailsWhileWriting, IsTruncatedRun, IsSessionServed, Serves}
 use Rattle.session_text.proofs.SessionCommands.{acts}

@@ -1,25 +1,9 @@
 -- Texts one after another, by way of a reply buffer.
-use Rattle.std.proofs.Common.{◌≡◌, ℕ, ◌+◌, ◌<◌, ◌≤◌, Bool, true, false, List, [], ◌++◌, take, drop, length, length-append, arith, refl, ap, sym, ◌∙◌, append_assoc}
-use Rattle.std.proofs.lemmas.List.{append-nil, take-append-drop, length-drop, take_all}
-use Rattle.dump_pump.specs.Outlets.{Outgoing}
-use Rattle.dump_pump.specs.Pumps.{PutsAll}
-use Rattle.session_text.specs.Writes.{IsTextWritten, IsTextAdded}
-
--- all bytes were put out, or some of them
-pub put_whole : (text : List ℕ) (a b : Outgoing) (n : ℕ) → PutsAll text a b n → length text ≤ n → IsTextWritten text a b true
-put_whole text a b n put all = (put.1 ∙ ap (λ l. a.out ++ l) (take_all n text all), put.2 (omega (arith, put.0, all)))
-
-pub put_part : (text : List ℕ) (a b : Outgoing) (n : ℕ) → PutsAll text a b n → n < length text → IsTextWritten text a b false
-put_part text a b n put less = (
-  record {
-    part = take n text;
-    rest = drop n text;
-    has = put.1;
-    lacks = sym (take-append-drop n text);
-    some = omega (arith, length-drop n text, less);
-  },
-  put.3 less,
-)
+use Rattle.std.proofs.Common.{◌≡◌, ℕ, ◌+◌, Bool, true, false, List, [], ◌++◌, length-append, arith, refl, ap, sym, ◌∙◌, append_assoc}
+use Rattle.std.proofs.lemmas.List.{append-nil}
+use Rattle.byte_io.specs.Outlets.{Outgoing}
+use Rattle.byte_io.specs.Puts.{IsTextWritten}
+use Rattle.session_text.specs.Writes.{IsTextAdded}
 
 -- the reply buffer alone took it
 pub text_added_to_page_alone : (text page : List ℕ) (a : Outgoing) (page' : List ℕ) → page' ≡ page ++ text → IsTextAdded text page a page' a true

@@ -14,7 +14,7 @@ use Rattle.session_grammar.specs.Lines.{NoLf}
 use Rattle.session_text.specs.Mutators.{FollowsIn, IsActionAsked, IsActionDone, IsPassed, IsQuick, IsQuickIn, IsShortLine, quick_of}
 use Rattle.session_text.specs.declared.mutator.Quick.{Quick}
 use Rattle.session_text.specs.declared.mutator.Quick.TheVariants.{No, Next, Fault}
-use Rattle.dump_pump.specs.Outlets.{Outgoing}
+use Rattle.byte_io.specs.Outlets.{Outgoing}
 use Rattle.session_text.specs.declared.answer.Flow.{Flow}
 use Rattle.session_text.specs.Answers.{Reaction, AnswerRelation, AnswersCommand, Begins, AnswersTo, BeginsTo}
 use Rattle.session_text.specs.Dumps.{Acts}

@@ -10,7 +10,7 @@ use Rattle.heap_trail.specs.declared.Action.TheVariants.{OpenPin, NextPiece, Clo
 use Rattle.heap_trail.specs.declared.Reply.{Reply}
 use Rattle.heap_trail.specs.declared.Reply.TheVariants.{Refused}
 use Rattle.heap_trail.specs.Machine.{Machine, Allocation, Granted, Denied, LosesPins, MayStand, acted, acted_under, may_grow, may_overwrite}
-use Rattle.dump_pump.specs.Piece.{Piece as GivenPiece}
+use Rattle.hprof_text.specs.declared.Piece.{Piece as GivenPiece}
 use Rattle.session_text.specs.declared.Ended.{Ended}
 use Rattle.session_text.specs.declared.Ended.TheVariants.{Quit}
 use Rattle.session_grammar.specs.declared.command.Command.{Command}

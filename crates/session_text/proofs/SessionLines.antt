@@ -16,7 +16,7 @@ use Rattle.session_text.specs.declared.ReadEnd.TheVariants.{Over, Failed, Spent}
 use Rattle.session_text.specs.declared.commands.Local.{Local}
 use Rattle.session_text.specs.Answers.{AnswersCommand, all_bad}
 use Rattle.session_grammar.specs.Grammar.{command_of}
-use Rattle.dump_pump.specs.Inlets.{Incoming}
+use Rattle.byte_io.specs.Inlets.{Incoming}
 use Rattle.session_grammar.specs.Lines.{NoLf}
 use Rattle.session_text.specs.Limits.{longest_line}
 use Rattle.session_text.specs.Session.{Talk, after_command, go_on, FitsCommand, FitLines, at_read_end, at_long, talked}

@@ -3,7 +3,7 @@ use Rattle.std.proofs.Common.{◌≡◌, ℕ, ◌⊎◌, inl, inr, false, List, 
 use Rattle.std.proofs.lemmas.List.{append-nil}
 use Rattle.std.specs.Io.KnownBytes.{Keeps}
 use mathlib.Core.List.{IsPrefix}
-use Rattle.dump_pump.specs.Outlets.{Outgoing}
+use Rattle.byte_io.specs.Outlets.{Outgoing}
 use Rattle.heap_trail.specs.Machine.{Machine, Allocation}
 use Rattle.session_text.specs.declared.limits.SessionLimits.{SessionLimits}
 use Rattle.session_text.specs.declared.Ended.{Ended}
@@ -13,10 +13,10 @@ use Rattle.session_text.specs.declared.ReadEnd.TheVariants.{Over, Failed, Spent}
 use Rattle.session_text.specs.declared.commands.Local.{Local}
 use Rattle.session_text.specs.Answers.{AnswersCommand, Begins, all_bad}
 use Rattle.session_grammar.specs.Grammar.{command_of}
-use Rattle.dump_pump.specs.Inlets.{Incoming, whole}
+use Rattle.byte_io.specs.Inlets.{Incoming, whole}
 use Rattle.session_text.specs.Session.{Talk, after_up_to, after_command, FitLines, AllocationsFit, talked, session_of, ShowsSession, CutsLine, CutsEnd, CutsPage, IsSession}
 use Rattle.session_text.specs.Talks.{stream, IsTalk, EndsCleanly, FailsWhileWriting, IsTruncatedRun, Serves}
-use Rattle.session_text.specs.Writes.{IsCutShort, IsTextWritten}
+use Rattle.byte_io.specs.Puts.{IsCutShort, IsTextWritten}
 use Rattle.session_text.proofs.AnsweredLines.{served_lines_then_failed_write}
 use Rattle.session_text.proofs.SessionCommands.{parts, talk, acts}
 use Rattle.session_text.proofs.SessionLines.{line_talked_then_rest, line_and_later_lines_fit, nothing_left_is_eof, answered_lines_pass, FitsEnd, clean_end_is_talked}

@@ -1,9 +1,9 @@
 -- The effect of a read on a session's buffer.
 use Rattle.std.specs.Prelude.{◌≡◌, ◌+◌, ◌<◌, List, [], ◌∷◌, ◌++◌, length, ℕ}
 use Rattle.std.specs.Io.KnownBytes.{Keeps}
-use Rattle.dump_pump.specs.declared.inlet.Take.{Take}
-use Rattle.dump_pump.specs.declared.inlet.Take.TheVariants.{Got, End, Failed}
-use Rattle.dump_pump.specs.Inlets.{Incoming, NothingLeft, whole}
+use Rattle.byte_io.specs.declared.inlet.Take.{Take}
+use Rattle.byte_io.specs.declared.inlet.Take.TheVariants.{Got, End, Failed}
+use Rattle.byte_io.specs.Inlets.{Incoming, NothingLeft, whole}
 
 -- the effect of a read on a buffer's bytes
 abbrev pub IsInletRead : List ℕ → List ℕ → Incoming → Incoming → Take → Type 0

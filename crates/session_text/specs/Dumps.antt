@@ -1,11 +1,11 @@
 -- The text of a dump, from the replies to its actions.
 use Rattle.std.specs.Prelude.{◌≡◌, ℕ, zero, suc, ◌+◌, ◌≤◌, ◌⊎◌, Bool, true, false, List, [], ◌++◌, length, codes, Option, Some, None}
 use Rattle.hprof_text.specs.Laws.{piece_limit}
-use Rattle.dump_pump.specs.Outlets.{Outgoing}
+use Rattle.byte_io.specs.Outlets.{Outgoing}
 use Rattle.heap_trail.specs.declared.Action.{Action}
 use Rattle.heap_trail.specs.declared.Action.TheVariants.{OpenPin, NextPiece, ClosePin}
 use Rattle.heap_trail.specs.declared.Reply.{Reply}
-use Rattle.dump_pump.specs.Piece.{Piece}
+use Rattle.hprof_text.specs.declared.Piece.{Piece}
 use Rattle.session_text.specs.Replies.{line, and_number, reply_text, data_lines, piece_in, pin_in}
 use Rattle.session_text.specs.Writes.{IsTextAdded}
 

@@ -1,15 +1,15 @@
 -- What an ending says of the reader and the writer.
 use Rattle.std.specs.Prelude.{◌≡◌, ℕ, ◌+◌, ◌⊎◌, Bool, true, false, List, ◌++◌, length}
-use Rattle.dump_pump.specs.Outlets.{Outgoing}
+use Rattle.byte_io.specs.Outlets.{Outgoing}
 use Rattle.session_text.specs.declared.Ended.{Ended}
 use Rattle.session_text.specs.declared.Ended.TheVariants.{Quit, Eof, CutLine, TooLong, ReadFault, TooManyReads, WriteFault, NoMemory}
 use Rattle.session_text.specs.declared.answer.Flow.{Flow}
 use Rattle.session_text.specs.declared.answer.Flow.TheVariants.{Next, Fault}
 use Rattle.session_text.specs.declared.limits.SessionLimits.{SessionLimits}
-use Rattle.dump_pump.specs.Inlets.{Incoming}
+use Rattle.byte_io.specs.Inlets.{Incoming}
 use Rattle.session_text.specs.Buffers.{HasEnded}
 use Rattle.session_text.specs.Limits.{most_reads}
-use Rattle.session_text.specs.Writes.{IsTextWritten}
+use Rattle.byte_io.specs.Puts.{IsTextWritten}
 
 -- the next line comes, unless a write failed
 abbrev pub flow_of : Bool → Flow

@@ -14,5 +14,3 @@ pub mod Laws
 -- What clauses here, and proofs above, cite of the crates below.
 pub use Rattle.heap_trail.specs.Machine
 pub use Rattle.byteorder.specs.Endian
-pub use Rattle.dump_pump.specs.Inlets
-pub use Rattle.dump_pump.specs.Outlets

@@ -11,7 +11,7 @@ use Rattle.heap_step.specs.declared.Answer.{Answer}
 use Rattle.heap_step.specs.declared.Answer.TheVariants.{Class, Object, Null, Value, Done, Pushed, Condemned, Swept}
 use Rattle.heap_trail.specs.declared.Reply.{Reply}
 use Rattle.heap_trail.specs.declared.Reply.TheVariants.{Answered, Place, Pinned, Part, Closed, Refused}
-use Rattle.dump_pump.specs.Piece.{Piece}
+use Rattle.hprof_text.specs.declared.Piece.{Piece}
 use Rattle.session_text.specs.declared.commands.LineAnswer.{LineAnswer}
 use Rattle.session_text.specs.declared.commands.LineAnswer.TheVariants.{BadCommand, Known, Line, Number, Text}
 

@@ -2,12 +2,12 @@
 use Rattle.std.specs.Prelude.{◌≡◌, ℕ, zero, suc, ◌+◌, ◌≤◌, ◌⊎◌, Bool, true, false, ◌==◌, nat_lt, List, [], ◌∷◌, ◌++◌, length, codes, Option, Some, None, if◌then◌else◌}
 use Rattle.std.specs.List.{slice_split}
 use Rattle.std.specs.Io.KnownBytes.{Keeps}
-use Rattle.dump_pump.specs.Outlets.{Outgoing}
+use Rattle.byte_io.specs.Outlets.{Outgoing}
 use Rattle.heap_trail.specs.declared.Action.{Action}
 use Rattle.heap_trail.specs.declared.Action.TheVariants.{OpenPin, NextPiece, ClosePin}
 use Rattle.heap_trail.specs.declared.Reply.{Reply}
 use Rattle.heap_trail.specs.Machine.{Machine, Allocation, Granted, Denied, MayStand, acted, acted_under}
-use Rattle.dump_pump.specs.Piece.{Piece as GivenPiece}
+use Rattle.hprof_text.specs.declared.Piece.{Piece as GivenPiece}
 use Rattle.session_text.specs.declared.Ended.{Ended}
 use Rattle.session_text.specs.declared.Ended.TheVariants.{Quit, Eof, CutLine, TooLong, ReadFault, TooManyReads, WriteFault, NoMemory as NoRoom}
 use Rattle.session_text.specs.declared.ReadEnd.{ReadEnd}
@@ -19,11 +19,11 @@ use Rattle.session_grammar.specs.declared.command.Command.TheVariants.{Blank, Ba
 use Rattle.session_text.specs.Dumps.{total_line}
 use Rattle.hprof_text.specs.Laws.{piece_limit}
 use Rattle.session_grammar.specs.Grammar.{command_of}
-use Rattle.dump_pump.specs.Inlets.{Incoming, whole}
+use Rattle.byte_io.specs.Inlets.{Incoming, whole}
 use Rattle.session_grammar.specs.Reads.{ActionTakesMemory}
 use Rattle.session_text.specs.Replies.{reply_text, data_lines, piece_in, pin_in}
 use Rattle.session_text.specs.Talks.{IsLine, BeginsWith}
-use Rattle.session_text.specs.Writes.{IsCutShort}
+use Rattle.byte_io.specs.Puts.{IsCutShort}
 
 -- a session between two lines: the machine, the allocations of what is to come (none: each action gets its memory), and the text
 -- written so far

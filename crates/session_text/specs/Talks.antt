@@ -1,7 +1,7 @@
 -- Sessions: the lines that were read, and the texts written for them.
 use Rattle.std.specs.Prelude.{◌≡◌, ℕ, ◌+◌, ◌≤◌, ◌<◌, ◌⊎◌, true, false, List, [], ◌∷◌, ◌++◌, take, length, flat_map, codes, All, Option, Some, None}
 use Rattle.std.specs.Io.KnownBytes.{Keeps}
-use Rattle.dump_pump.specs.Outlets.{Outgoing}
+use Rattle.byte_io.specs.Outlets.{Outgoing}
 use Rattle.session_text.specs.declared.Ended.{Ended}
 use Rattle.session_text.specs.declared.Ended.TheVariants.{Quit, Eof, CutLine, TooLong, ReadFault, TooManyReads, WriteFault, NoMemory}
 use Rattle.session_text.specs.declared.answer.Flow.{Flow}
@@ -11,11 +11,12 @@ use Rattle.session_grammar.specs.declared.command.Command.{Command}
 use Rattle.session_grammar.specs.declared.command.Command.TheVariants.{End}
 use Rattle.session_text.specs.Answers.{Reaction, AnswerRelation}
 use Rattle.session_grammar.specs.Grammar.{command_of}
-use Rattle.dump_pump.specs.Inlets.{Incoming, whole}
+use Rattle.byte_io.specs.Inlets.{Incoming, whole}
 use Rattle.session_text.specs.Buffers.{HasEnded}
 use Rattle.session_grammar.specs.Lines.{NoLf}
 use Rattle.session_text.specs.Limits.{longest_line, most_reads}
-use Rattle.session_text.specs.Writes.{IsTextWritten, IsTextAdded}
+use Rattle.byte_io.specs.Puts.{IsTextWritten}
+use Rattle.session_text.specs.Writes.{IsTextAdded}
 
 -- a line without its LF, or the beginning of one
 pub record IsLine (limits : SessionLimits) (l : List ℕ) : Type 0 where

@@ -11,7 +11,7 @@ use crate::commands::Commands;
 use crate::page::Page;
 use crate::reply::{write_answer, write_object, write_reply};
 use crate::write::write_text;
-use dump_pump::Outlet;
+use byte_io::Outlet;
 use heap_step::{Answer, IntoEvent};
 use heap_trail::{Action, Reply};
 

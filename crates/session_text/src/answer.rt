@@ -17,7 +17,7 @@ use crate::page::Page;
 use crate::reply::write_reply;
 use crate::session::{Context, Session};
 use crate::write::{write_long, write_number_line, write_text};
-use dump_pump::Outlet;
+use byte_io::Outlet;
 use heap_class::Refusal;
 use heap_trail::{Action, Reply};
 use session_grammar::command::{Command, command_of_text, without_cr};

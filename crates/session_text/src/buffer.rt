@@ -1,12 +1,13 @@
 //! The bytes that were read and aren't answered yet.
 ghost use Rattle.std.specs.Prelude.{◌≡◌, ◌+◌, ◌-◌, ◌≤◌, ◌<◌, ◌⊎◌, [], take, drop, length, vec_capacity, IfOk, MatchOption};
-ghost use Rattle.dump_pump.specs.Inlets.{count_of};
+ghost use Rattle.byte_io.specs.Inlets.{count_of};
 ghost use Rattle.session_text.specs.Buffers.{IsInletRead};
 ghost use Rattle.session_text.specs.Limits.{buffer_limit};
 ghost use Rattle.session_grammar.specs.Lines.{NoLf, IsLineAt};
 ghost use Rattle.session_grammar.specs.declared.TheConstants.{LINE_LIMIT};
 
-use dump_pump::inlet::{Inlet, Take, count_of};
+use byte_io::inlet::count_of;
+use byte_io::{Inlet, Take};
 use memchr::memchr;
 use std::alloc::{AllocError, Global};
 use std::marker::Model;

@@ -8,7 +8,7 @@ ghost use Rattle.session_text.specs.declared.write.TheConstants.{LINE_START};
 
 use crate::page::Page;
 use crate::write::make_room;
-use dump_pump::Outlet;
+use byte_io::Outlet;
 
 // The largest number of bytes on a data line.
 const DATA_LIMIT: usize = 64;

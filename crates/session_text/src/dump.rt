@@ -7,7 +7,7 @@ use crate::data::write_data;
 use crate::page::Page;
 use crate::reply::{piece_in, pin_in, write_reply};
 use crate::write::{write_number_line, write_text};
-use dump_pump::Outlet;
+use byte_io::Outlet;
 use heap_trail::Action;
 use hprof_text::PIECE_LIMIT;
 

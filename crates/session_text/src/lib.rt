@@ -27,14 +27,13 @@ mod talk;
 mod write;
 
 pub use commands::{Commands, LineAnswer, Local};
-pub use dump_pump::{Inlet, Outlet, ReadInlet, Take};
 pub use examples::worked_session;
 pub use heap_trail::Machine;
 pub use limits::{SessionLimits, session_limits};
 pub use printing::printed;
 pub use reply::cause_word;
 pub use talk::{serve, serve_local};
-pub use write::{write_all, write_number};
+pub use write::write_number;
 
 /// The way in which a session ended.
 #[derive(Clone, Copy, PartialEq, Eq)]

@@ -7,7 +7,7 @@ use crate::buffer::LF;
 use crate::commands::Commands;
 use crate::page::Page;
 use crate::short_lines::{ShortLine, one_in};
-use dump_pump::Outlet;
+use byte_io::Outlet;
 use heap_step::{ClearEvent, LoadEvent, MarkEvent, MoveEvent, NewEvent, PutEvent, StoreEvent};
 use heap_trail::Action;
 use session_grammar::words::SPACE;

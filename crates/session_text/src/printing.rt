@@ -6,7 +6,7 @@ use crate::answer::write_line_answer;
 use crate::commands::LineAnswer;
 use crate::page::Page;
 use crate::write::flush;
-use dump_pump::{Log, Outlet, Put};
+use byte_io::{Log, Outlet, Put};
 use std::alloc::{AllocError, Global};
 use std::marker::Model;
 
@@ -20,7 +20,7 @@ struct TextOutlet {
 
 impl Model for TextOutlet {
     ghost use Rattle.std.specs.Prelude.{length};
-    ghost use Rattle.dump_pump.specs.Outlets.{Outgoing};
+    ghost use Rattle.byte_io.specs.Outlets.{Outgoing};
 
     ghost Value = { Outgoing };
 

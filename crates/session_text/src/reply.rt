@@ -11,10 +11,11 @@ ghost use Rattle.session_text.specs.declared.write.TheConstants.{LINE_START};
 use crate::data::write_data;
 use crate::page::Page;
 use crate::write::make_room;
-use dump_pump::{Outlet, Piece};
+use byte_io::Outlet;
 use heap_class::{LostCause, Refusal};
 use heap_step::Answer;
 use heap_trail::Reply;
+use hprof_text::Piece;
 
 /// Returns the word of a cause.
 pub fn cause_word(cause: LostCause) -> &'static [u8]

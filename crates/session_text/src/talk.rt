@@ -11,7 +11,7 @@ use crate::commands::{Commands, Local};
 use crate::session::{Context, Session};
 use crate::write::{flush, write_text};
 use crate::{Ended, SessionLimits};
-use dump_pump::{Inlet, Outlet, Take};
+use byte_io::{Inlet, Outlet, Take};
 use std::alloc::Global;
 
 /// Reads lines and writes the answers of the commands, in order, until an ending. The sizes of single reads and writes don't

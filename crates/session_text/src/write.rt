@@ -1,26 +1,18 @@
 //! The writing of a reply buffer.
 ghost use Rattle.std.specs.Prelude.{◌≡◌, ◌≤◌, [], decimal, length};
 ghost use Rattle.session_text.specs.Replies.{and_number, line};
-ghost use Rattle.session_text.specs.Writes.{IsTextWritten, IsTextAdded};
+ghost use Rattle.byte_io.specs.Puts.{IsTextWritten};
+ghost use Rattle.session_text.specs.Writes.{IsTextAdded};
 ghost use Rattle.session_text.specs.declared.write.TheConstants.{LINE_START, TEXT_LIMIT};
 
 use crate::page::Page;
-use dump_pump::Outlet;
-use dump_pump::transfer::put_all;
+use byte_io::{Outlet, write_all};
 
 /// The largest number of bytes of a reply buffer that has room for one more line.
 pub const LINE_START: usize = 8000;
 
 /// The largest number of bytes of a text that is added as a line.
 pub const TEXT_LIMIT: usize = 192;
-
-/// Puts out all bytes. Returns false if a put failed.
-#[tactic(auto, using(crate::proofs::PageTexts::put_whole, crate::proofs::PageTexts::put_part))]
-pub fn write_all<O: Outlet>(outlet: &mut O, bytes: &[u8]) -> bool
-    ensures { IsTextWritten bytes.now (O.seen outlet.old) (O.seen outlet.new) result }
-{
-    put_all(outlet, bytes) >= bytes.len()
-}
 
 /// Puts out a number and the end of its line. Returns false if a put failed.
 pub fn write_number<O: Outlet>(outlet: &mut O, number: u64) -> bool

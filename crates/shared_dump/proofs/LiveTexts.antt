@@ -9,7 +9,7 @@ use Rattle.heap_lock.specs.Segments.{dump_text}
 use Rattle.heap_lock.specs.Images.{image_of}
 use Rattle.dump_pump.specs.declared.transfer.Pumped.{Pumped}
 use Rattle.dump_pump.specs.declared.transfer.Pumped.TheVariants.{Done, OutletFailed, Lost, Cancelled}
-use Rattle.dump_pump.specs.Outlets.{Outgoing}
+use Rattle.byte_io.specs.Outlets.{Outgoing}
 use Rattle.dump_pump.specs.Pumps.{joined, ends}
 use Rattle.heap_lock.specs.Calls.{Call, IsLegalLedger}
 use Rattle.heap_lock.specs.Dumpers.{DumperState}

@@ -7,7 +7,7 @@ use Rattle.heap_lock.specs.Action.TheVariants.{OpenPin, ClosePin}
 use Rattle.heap_lock.specs.Reply.TheVariants.{Pinned, Closed, Refused}
 use Rattle.dump_pump.specs.declared.transfer.Pumped.{Pumped}
 use Rattle.dump_pump.specs.declared.transfer.Pumped.TheVariants.{Done, OutletFailed, Lost, Cancelled}
-use Rattle.dump_pump.specs.Outlets.{Outgoing}
+use Rattle.byte_io.specs.Outlets.{Outgoing}
 use Rattle.heap_lock.specs.Dumpers.{DumperState, Makes}
 use Rattle.heap_lock.specs.Laws.{pieces_given}
 use Rattle.shared_dump.specs.Streams.{PutsLive}

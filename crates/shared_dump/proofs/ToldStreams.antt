@@ -7,7 +7,7 @@ use Rattle.dump_pump.specs.declared.source.SourceEnd.{SourceEnd}
 use Rattle.dump_pump.specs.declared.source.SourceEnd.TheVariants as End
 use Rattle.dump_pump.specs.declared.transfer.Pumped.{Pumped}
 use Rattle.dump_pump.specs.declared.transfer.Pumped.TheVariants.{Done, OutletFailed, Lost, Cancelled}
-use Rattle.dump_pump.specs.Outlets.{Outgoing}
+use Rattle.byte_io.specs.Outlets.{Outgoing}
 use Rattle.dump_pump.specs.Pumps.{FitsPump}
 use Rattle.dump_pipe.specs.Cancellables.{cancellable}
 use Rattle.dump_pipe.specs.Streams.{IsStreamed}

@@ -9,7 +9,7 @@ use Rattle.heap_lock.specs.Action.TheVariants.{OpenPin, ClosePin}
 use Rattle.heap_lock.specs.Reply.{Reply}
 use Rattle.heap_lock.specs.Reply.TheVariants.{Pinned, Refused}
 use Rattle.dump_pump.specs.declared.transfer.Pumped.{Pumped}
-use Rattle.dump_pump.specs.Outlets.{Outgoing}
+use Rattle.byte_io.specs.Outlets.{Outgoing}
 use Rattle.heap_lock.specs.Calls.{Call, IsLegalLedger}
 use Rattle.heap_lock.specs.Dumpers.{DumperState, Makes, OthersKeepOff}
 use Rattle.heap_lock.specs.Laws.{state_at}

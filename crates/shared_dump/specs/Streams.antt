@@ -5,7 +5,7 @@ use Rattle.heap_lock.specs.HeapLimits.{HeapSettings}
 use Rattle.heap_lock.specs.Piece.{Piece}
 use Rattle.dump_pump.specs.declared.transfer.Pumped.{Pumped}
 use Rattle.dump_pump.specs.declared.transfer.Pumped.TheVariants.{Done, OutletFailed, Lost, Cancelled}
-use Rattle.dump_pump.specs.Outlets.{Outgoing}
+use Rattle.byte_io.specs.Outlets.{Outgoing}
 use Rattle.dump_pump.specs.Pumps.{joined, ends, bytes_of}
 use Rattle.heap_lock.specs.Calls.{Call}
 use Rattle.heap_lock.specs.Dumpers.{AllAsk, DumperState}

@@ -6,8 +6,9 @@ ghost use Rattle.shared_dump.specs.Guards.{IsCancelledOnlyIf, SaidSince};
 
 use crate::guard::{DumpGuard, Guarded};
 use crate::streams::{LivePin, StreamSeats, stream};
+use byte_io::{Outlet, Put};
 use dump_pipe::{AskSeat, Cancel, FeedSeat};
-use dump_pump::{Outlet, Pumped, Put};
+use dump_pump::Pumped;
 use heap_lock::{Dumper, Heap};
 use std::alloc::Global;
 use std::marker::{Brand, Model, PhantomData};

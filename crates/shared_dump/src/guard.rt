@@ -1,5 +1,5 @@
 //! The guards of dumps, which say when one has to end.
-use dump_pump::Outlet;
+use byte_io::Outlet;
 
 /// A guard of a dump. Contracts see what it may say.
 pub trait DumpGuard {

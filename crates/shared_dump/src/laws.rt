@@ -2,7 +2,7 @@
 ghost use Rattle.std.specs.Prelude.{ℕ, Bool};
 ghost use Rattle.heap_lock.specs.HeapLimits.{HeapSettings};
 ghost use Rattle.dump_pump.specs.declared.transfer.Pumped.{Pumped};
-ghost use Rattle.dump_pump.specs.Outlets.{Outgoing};
+ghost use Rattle.byte_io.specs.Outlets.{Outgoing};
 ghost use Rattle.heap_lock.specs.Dumpers.{DumperState};
 ghost use Rattle.shared_dump.specs.StreamTexts.{StreamsText};
 

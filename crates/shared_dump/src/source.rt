@@ -5,7 +5,8 @@ ghost use Rattle.heap_lock.specs.Calls.{IsLegalLedger};
 ghost use Rattle.dump_pump.specs.Sources.{parts_in, parts_with};
 ghost use Rattle.shared_dump.specs.Supplies.{IsNotLost, IsSupplied, ended_with, nothing_of};
 
-use dump_pump::{Log, Next, PIECE_LIMIT, Piece, Source, SourceEnd};
+use byte_io::Log;
+use dump_pump::{Next, PIECE_LIMIT, Piece, Source, SourceEnd};
 use heap_lock::{Dumper, Heap, LockedSource, LostCause};
 use std::marker::Model;
 use std::sync::Wait;

@@ -6,8 +6,9 @@ ghost use Rattle.heap_lock.specs.Calls.{IsLegalLedger};
 ghost use Rattle.shared_dump.specs.Streams.{PutsLive};
 
 use crate::source::ToldSource;
+use byte_io::Outlet;
 use dump_pipe::{Cancellable, Counter, FeedSeat, Meter, OutSeat, stream_parts};
-use dump_pump::{Outlet, Pumped};
+use dump_pump::Pumped;
 use heap_lock::{Dumper, Heap};
 use std::alloc::Global;
 use std::sync::Wait;

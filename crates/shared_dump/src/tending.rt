@@ -8,7 +8,7 @@ use crate::socket::DumpSocket;
 use crate::term::{DumpTerm, TermGuard};
 use crate::watch::PinWatch;
 use crate::words::word;
-use dump_pump::WriteOutlet;
+use byte_io::WriteOutlet;
 use heap_lock::{Dumper, Heap, Shared};
 use secret_word::Secret;
 use std::alloc::Global;

@@ -1,7 +1,8 @@
 //! A pump of a machine's pin, from its first piece that was not given yet.
 use super::trials::{Trial, goes_alone, has_point, takes};
 use crate::scripts::{ONE_POINT, put_x};
-use dump_pump::{LostCause, Pumped, WriteOutlet, pump};
+use byte_io::WriteOutlet;
+use dump_pump::{LostCause, Pumped, pump};
 use heap_lock::Machine;
 use heap_trail::PinAt;
 use machine_dump::PinSource;

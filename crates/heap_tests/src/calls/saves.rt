@@ -1,7 +1,7 @@
 //! Sessions that are saved into memory, beside pins that others opened.
 use super::trials::{Trial, goes_alone};
 use crate::scripts::ONE_POINT;
-use dump_pump::{Inlet, Outlet, ReadInlet, WriteOutlet};
+use byte_io::{Inlet, Outlet, ReadInlet, WriteOutlet};
 use heap_lock::Machine;
 use heap_save::{LastDump, Outlets};
 use machine_dump::{Gauge, Silent};

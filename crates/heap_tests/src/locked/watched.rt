@@ -2,7 +2,8 @@
 use super::scenes::{Scene, play_scene};
 use super::shared::{Stage, has_points, pumped_text};
 use super::sinks::{Flags, Sink};
-use dump_pump::{Pumped, WriteOutlet};
+use byte_io::WriteOutlet;
+use dump_pump::Pumped;
 use heap_lock::{Dumper, Heap, Seat};
 use heap_runtime::{DumpWatcher, Dumped, dump};
 use std::sync::Wait;

@@ -1,6 +1,6 @@
 use Rattle.std.proofs.Common.{Some, refl}
 use Rattle.session_text.specs.Answers.{AnswersCommand, Begins}
-use Rattle.dump_pump.specs.Inlets.{Incoming}
+use Rattle.byte_io.specs.Inlets.{Incoming}
 use Rattle.heap_console.proofs.LoadedTexts.{served_lines_are_run}
 use Rattle.heap_console.proofs.load_outlet.run_lines.Goals as goal
 

@@ -1,6 +1,6 @@
 use Rattle.std.proofs.Common.{◌≡◌, ◌+◌, ◌∙◌, rules, length, take, vec_len, sym, subst, inl, inr, arith}
 use Rattle.std.proofs.lemmas.List.{length-take-le}
-use Rattle.dump_pump.specs.declared.inlet.Take.TheVariants.{End, Failed}
+use Rattle.byte_io.specs.declared.inlet.Take.TheVariants.{End, Failed}
 use Rattle.session_text.specs.Buffers.{IsInletRead}
 use Rattle.heap_server.proofs.AheadReads.{IsReading, read_end_is_ahead, read_fault_is_ahead, read_that_gave_more_grew, line_read_is_ahead, reading_goes}
 use Rattle.heap_server.proofs.ahead.fill.Goals.{then-is_some-via-then-is_some, then-is_some-via-else-is_some+then-end-most}

@@ -1,15 +1,16 @@
 use Rattle.std.proofs.Common.{◌≡◌, ◌∙◌, ◌+◌, ◌++◌, ◌∷◌, ℕ, List, [], inl, inr, ap, subst, refl, length, length-append, arith, true, false}
 use Rattle.std.specs.Prelude.{codes}
 use Rattle.std.specs.Io.KnownBytes.{Keeps}
-use Rattle.dump_pump.specs.Outlets.{Outgoing}
+use Rattle.byte_io.specs.Outlets.{Outgoing}
 use Rattle.session_text.specs.declared.Ended.{Ended}
 use Rattle.session_text.specs.declared.Ended.TheVariants.{Quit, Eof, CutLine, TooLong, ReadFault, TooManyReads}
 use Rattle.session_text.specs.Answers.{AnswersCommand, Begins}
 use Rattle.session_text.specs.Endings.{EndsWith}
-use Rattle.dump_pump.specs.Inlets.{whole}
+use Rattle.byte_io.specs.Inlets.{whole}
 use Rattle.session_text.specs.Talks.{EndsCleanly, IsTalk, Serves}
 use Rattle.session_text.specs.Limits.{most_reads}
-use Rattle.session_text.specs.Writes.{IsTextAdded, IsTextWritten}
+use Rattle.byte_io.specs.Puts.{IsTextWritten}
+use Rattle.session_text.specs.Writes.{IsTextAdded}
 use Rattle.session_text.proofs.Lists.{is_empty_of, is_some_of}
 use Rattle.session_text.proofs.PageTexts.{paged_written, paged_flushed}
 use Rattle.session_text.proofs.AnsweredLines.{IsOpen, option_keeps_itself, session_open_with_no_bytes, open_answered, session_open_after_read, session_open_with_read_bytes, no_lines_make_a_talk, session_ends_without_line, session_ends_with_ending_line, session_ends_in_failed_answers, session_ends_in_failed_ending}

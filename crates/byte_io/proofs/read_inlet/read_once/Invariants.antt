@@ -1,5 +1,5 @@
 use Rattle.std.specs.Io.KnownBytes.{Keeps}
-use Rattle.dump_pump.proofs.read_inlet.read_once.Given as goal
+use Rattle.byte_io.proofs.read_inlet.read_once.Given as goal
 
 abbrev pub invariant-loop : goal.invariant-loop
 invariant-loop g l = Keeps (g.R.Read.remaining l.initial.reader) (g.R.Read.remaining l.reader)

@@ -1,6 +1,6 @@
 use Rattle.std.proofs.Common.{◌∙◌}
-use Rattle.dump_pump.proofs.PumpSteps.{output_goes_on_with_rest}
-use Rattle.dump_pump.proofs.transfer.put_all.Goals as goal
+use Rattle.byte_io.proofs.WholePuts.{output_goes_on_with_rest}
+use Rattle.byte_io.proofs.puts.put_all.Goals as goal
 
 pub loop-at-preserved : goal.loop-at-preserved
 loop-at-preserved g c =

@@ -1,6 +1,6 @@
 //! Inlets over readers.
 ghost use Rattle.std.specs.Prelude.{◌≡◌, ◌<◌, [], length};
-ghost use Rattle.dump_pump.specs.Inlets.{IsTriedRead};
+ghost use Rattle.byte_io.specs.Inlets.{IsTriedRead};
 
 use crate::Log;
 use crate::ghost_list::note_bytes;
@@ -21,8 +21,8 @@ pub struct ReadInlet<R: Read> {
 
 impl<R: Read> Model for ReadInlet<R> {
     ghost use Rattle.std.specs.Prelude.{length, map};
-    ghost use Rattle.dump_pump.specs.Outlets.{ghost_bytes};
-    ghost use Rattle.dump_pump.specs.Inlets.{InletState};
+    ghost use Rattle.byte_io.specs.Outlets.{ghost_bytes};
+    ghost use Rattle.byte_io.specs.Inlets.{InletState};
 
     ghost Value = { InletState R };
 

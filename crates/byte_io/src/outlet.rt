@@ -4,7 +4,7 @@ use crate::Put;
 /// An outlet, which takes bytes. Contracts see the bytes that were put out so far and the number of puts that failed.
 pub trait Outlet {
     ghost use Rattle.std.specs.Prelude.{◌<◌, length};
-    ghost use Rattle.dump_pump.specs.Outlets.{Outgoing, IsPut};
+    ghost use Rattle.byte_io.specs.Outlets.{Outgoing, IsPut};
 
     ghost seen: { Self → Outgoing };
 

@@ -1,8 +1,8 @@
 -- The effect of a put.
 use Rattle.std.specs.Prelude.{◌≡◌, ℕ, ◌+◌, ◌<◌, ◌≤◌, List, ◌++◌, map, take, length, Option, Some, None}
 use Rattle.std.specs.Io.KnownBytes.{Appends, Keeps}
-use Rattle.dump_pump.specs.declared.Put.{Put}
-use Rattle.dump_pump.specs.declared.Put.TheVariants.{Took, Failed}
+use Rattle.byte_io.specs.declared.Put.{Put}
+use Rattle.byte_io.specs.declared.Put.TheVariants.{Took, Failed}
 
 -- the bytes that were put out so far, and the number of puts that failed
 pub record Outgoing : Type 0 where

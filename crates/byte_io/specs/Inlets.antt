@@ -1,8 +1,8 @@
 -- The effect of a read.
 use Rattle.std.specs.Prelude.{◌≡◌, ℕ, ◌+◌, ◌<◌, ◌≤◌, List, [], ◌∷◌, ◌++◌, take, length, Option, option_map, IfSome}
 use Rattle.std.specs.Io.KnownBytes.{Keeps, Consumes, IsAtEnd}
-use Rattle.dump_pump.specs.declared.inlet.Take.{Take}
-use Rattle.dump_pump.specs.declared.inlet.Take.TheVariants.{Got, End, Failed}
+use Rattle.byte_io.specs.declared.inlet.Take.{Take}
+use Rattle.byte_io.specs.declared.inlet.Take.TheVariants.{Got, End, Failed}
 
 -- the bytes that were given so far, those left if the inlet tells them, the number of bytes of each read, and the number of
 -- reads that failed

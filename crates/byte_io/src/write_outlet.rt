@@ -1,7 +1,7 @@
 //! Outlets over writers.
 ghost use Rattle.std.specs.Prelude.{◌≡◌, ◌<◌, [], length};
 ghost use Rattle.std.specs.Io.KnownBytes.{Appends};
-ghost use Rattle.dump_pump.specs.Outlets.{IsTriedWrite};
+ghost use Rattle.byte_io.specs.Outlets.{IsTriedWrite};
 
 use crate::ghost_list::note_bytes;
 use crate::{Log, Outlet, Put};
@@ -26,7 +26,7 @@ pub struct WriteOutlet<W: Write> {
 impl<W: Write> Model for WriteOutlet<W> {
     ghost use Rattle.std.specs.Prelude.{length};
     ghost use Rattle.std.specs.Io.KnownBytes.{Appends};
-    ghost use Rattle.dump_pump.specs.Outlets.{Writing, ghost_bytes};
+    ghost use Rattle.byte_io.specs.Outlets.{Writing, ghost_bytes};
 
     ghost Value = { Writing W };
 
@@ -91,7 +91,7 @@ fn write_once<W: Write>(writer: &mut W, given: &[u8]) -> Option<usize>
 }
 
 impl<W: Write> Outlet for WriteOutlet<W> {
-    ghost use Rattle.dump_pump.specs.Outlets.{out_of};
+    ghost use Rattle.byte_io.specs.Outlets.{out_of};
 
     ghost seen = { λ o. record { out = out_of o.held o.put; failures = o.failures } };
 

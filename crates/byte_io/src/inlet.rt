@@ -1,6 +1,6 @@
 //! The trait of inlets, which give bytes.
 ghost use Rattle.std.specs.Prelude.{◌≡◌};
-ghost use Rattle.dump_pump.specs.Inlets.{count_of};
+ghost use Rattle.byte_io.specs.Inlets.{count_of};
 
 /// The outcome of a read.
 #[derive(Clone, Copy)]
@@ -27,7 +27,7 @@ pub fn count_of(took: Take) -> usize
 /// of bytes of each read, and the number of reads that failed.
 pub trait Inlet {
     ghost use Rattle.std.specs.Prelude.{◌<◌, length};
-    ghost use Rattle.dump_pump.specs.Inlets.{Incoming, IsTake};
+    ghost use Rattle.byte_io.specs.Inlets.{Incoming, IsTake};
 
     ghost seen: { Self → Incoming };
 

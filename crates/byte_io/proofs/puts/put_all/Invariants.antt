@@ -1,5 +1,5 @@
 use Rattle.std.proofs.Common.{length, ◌-◌, ◌≡◌, ◌≤◌, ◌++◌, take}
-use Rattle.dump_pump.proofs.transfer.put_all.Given as goal
+use Rattle.byte_io.proofs.puts.put_all.Given as goal
 
 abbrev pub invariant-loop-at : goal.invariant-loop-at
 invariant-loop-at g l =

@@ -1,6 +1,6 @@
 //! Ghost lists of what happened to an inlet or an outlet, which only contracts see.
 ghost use Rattle.std.specs.Prelude.{◌≡◌, ◌++◌};
-ghost use Rattle.dump_pump.specs.Outlets.{ghost_bytes};
+ghost use Rattle.byte_io.specs.Outlets.{ghost_bytes};
 
 use crate::Log;
 

@@ -1,0 +1,2 @@
+pub mod LongerLists
+pub mod WholePuts

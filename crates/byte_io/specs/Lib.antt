@@ -1,0 +1,3 @@
+pub mod Outlets
+pub mod Inlets
+pub mod Puts

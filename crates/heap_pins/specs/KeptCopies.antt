@@ -1,13 +1,15 @@
--- What a pin keeps of a step: a copy of the region that it overwrote or reclaimed, the cells that it took, and whether it ended
--- a cycle.
-use Rattle.std.specs.Prelude.{ℕ, Bool, true, false, List, [], ◌∷◌, fold, Option, Some, None, is_some, option_map, replicate, slice_index_or, slice_set, if◌then◌else◌}
-use Rattle.heap_region.specs.Regions.{Object}
+-- What a pin keeps of a step: a copy of the region or of the part that it overwrote or reclaimed, the cells that it took, and
+-- whether it ended a cycle.
+use Rattle.std.specs.Prelude.{ℕ, ◌/◌, ◌%◌, ◌==◌, Bool, true, false, not, ◌&&◌, nat_lt, List, [], ◌∷◌, ◌++◌, length, fold, Option, Some, None, is_some, option_map, replicate, slice_index_or, slice_set, if◌then◌else◌}
+use Rattle.heap_region.specs.Regions.{Object, object_at}
+use Rattle.heap_region.specs.Layout.{words_of}
 use Rattle.heap_region.specs.RegionCopies.{Frozen, frozen, frozen_with, frozen_word_set, region_frozen}
 use Rattle.heap_class.specs.declared.ObjRef.{ObjRef}
 use Rattle.heap_world.specs.State.{HeapState}
 use Rattle.heap_step.specs.declared.Undo.{Undo}
 use Rattle.heap_step.specs.declared.Undo.TheVariants.{Put, Store, New, Finish, Sweep, Reclaim}
 use Rattle.heap_step.specs.Records.{undone}
+use Rattle.heap_pins.specs.Parts.{part_at, part_before}
 use Rattle.heap_pins.specs.Pin.{PinContents, state_seen, states_of_region}
 
 -- the region of which a step with this record overwrote a word or reclaimed an object; a sweep that found no dead object did
@@ -72,6 +74,40 @@ kept_if None left v p = p
 kept_if (Some r) left v p =
     kept_at r (copy_for left v r) (states_before_step left v r p) (has_copy r p) p
 
+-- ---- parts
+
+-- a word that a step overwrote: its place, its slot, and what it was
+pub record Overwritten : Type 0 where
+  pub at : ObjRef
+  pub slot : ℕ
+  pub old : ℕ
+
+-- the words of the object at this place
+abbrev pub words_in : HeapState → ObjRef → List ℕ
+words_in v at = words_of (object_at v.regions at)
+
+-- whether the pin keeps a word of the object at this place by its part: the object is large, and its region has no copy
+abbrev pub goes_by_part : HeapState → PinContents → ObjRef → Bool
+goes_by_part v p at =
+    ((at.cell == 0) && nat_lt 1024 (length (words_in v at))) && not (has_copy at.region p)
+
+-- the pin with a part more
+abbrev pub with_part : ℕ → ℕ → List ℕ → PinContents → PinContents
+with_part r k ws p = record p { parts = p.parts ++ ((r, k), ws) ∷ [] }
+
+-- the pin with what it keeps of an overwritten word by its part, of which it has these words, if it has any; if they don't reach
+-- the slot, it keeps a copy of the region
+unfoldable pub kept_part : Option (List ℕ) → Overwritten → Undo → HeapState → PinContents → PinContents
+kept_part None o left v p =
+    with_part o.at.region (o.slot / 1024) (part_before o.slot o.old (words_in v o.at)) p
+kept_part (Some ws) o left v p =
+    if nat_lt (o.slot % 1024) (length ws) then p else kept_if (touched left) left v p
+
+-- the pin with what it keeps of an overwritten word, by its part (the flag), or else a copy of the region
+unfoldable pub kept_word : Bool → Overwritten → Undo → HeapState → PinContents → PinContents
+kept_word true o left v p = kept_part (part_at p.parts o.at.region (o.slot / 1024)) o left v p
+kept_word false o left v p = kept_if (touched left) left v p
+
 -- ---- taken cells
 
 -- the bytes of a region with this byte for a cell, or for all cells if the region was taken from the pool (the flag)
@@ -93,4 +129,10 @@ with_byte at fresh byte p =
 unfoldable pub kept : Undo → HeapState → PinContents → PinContents
 kept (New at fresh m r old) v p = if has_copy at.region p then p else with_byte at fresh 1 p
 kept (Finish log) v p = record p { ended = true }
+kept (Put at slot old) v p =
+    kept_word (goes_by_part v p at) (record { at = at; slot = slot; old = old }) (Put at slot old) v
+    p
+kept (Store at slot old logged) v p =
+    kept_word (goes_by_part v p at) (record { at = at; slot = slot; old = old })
+    (Store at slot old logged) v p
 kept left v p = kept_if (touched left) left v p

@@ -1,5 +1,6 @@
 pub mod Covers
 pub mod Images
+pub mod Parts
 pub mod Pin
 pub mod KeptRegions
 pub mod Slots

@@ -6,15 +6,18 @@ use Rattle.heap_region.specs.Regions.{Object, Region, object_at, object_base}
 use Rattle.heap_region.specs.RegionCopies.{Frozen, frozen_object, region_frozen}
 use Rattle.heap_world.specs.State.{HeapState}
 use Rattle.hprof_text.specs.Image.{Image, DumpedObject}
+use Rattle.heap_pins.specs.Parts.{Part, frozen_shown}
 
 -- the contents of a pin: the number of classes, the registers, whether a cycle ended since, the copies of the regions that were
--- overwritten since, and 256 bytes for each region: beside a copy the states of its cells, else 1 for each cell taken since
+-- overwritten since, 256 bytes for each region (beside a copy the states of its cells, else 1 for each cell taken since), and the
+-- parts of large objects that were overwritten since
 pub record PinContents : Type 0 where
   pub classes : ℕ
   pub registers : List ℕ
   pub ended : Bool
   pub copies : List (Option Frozen)
   pub cells : List (List ℕ)
+  pub parts : List Part
 
 -- ---- cells
 
@@ -83,9 +86,15 @@ abbrev pub copy_or_now : Option Frozen → Option Frozen → Option Frozen
 copy_or_now (Some f) now = Some f
 copy_or_now None now = now
 
--- region r as the pin shows it
+-- region r as the pin shows it: its copy or the region as it is, and over it the parts
 unfoldable pub region_seen : PinContents → List Region → ℕ → Option Frozen
-region_seen p regions r = copy_or_now (slice_index_or p.copies r None) (region_frozen regions r)
+region_seen p regions r =
+    option_map (frozen_shown p.parts r)
+    (copy_or_now (slice_index_or p.copies r None) (region_frozen regions r))
+
+-- the pin has no parts, so that it shows each object by one list of words that lie together
+abbrev pub IsWhole : PinContents → Type 0
+IsWhole p = p.parts ≡ []
 
 -- the object in a cell of a copy, as a dump shows it
 abbrev pub cell_dumped : ObjRef → Frozen → Option DumpedObject

@@ -11,29 +11,32 @@ use Rattle.heap_step.specs.Laws.{IsStep}
 use Rattle.heap_step.specs.Records.{undone}
 use Rattle.heap_pins.specs.KeptRegions.{byte_revived}
 use Rattle.heap_pins.specs.KeptCopies.{has_copy, with_byte, with_copy}
-use Rattle.heap_pins.specs.Pin.{PinContents, byte_in, region_seen, state_seen, states_of_region}
+use Rattle.heap_pins.specs.Pin.{PinContents, IsWhole, byte_in, region_seen, state_seen, states_of_region}
 use Rattle.heap_pins.specs.SharedCopies.{IsPatchable}
 use Rattle.heap_pins.specs.Shows.{AreCells, Holds, IsPinOf, OfFirst, ShowsState}
 use Rattle.heap_pins.specs.Walk.{ShowsBack, WalksFor, classes_before, registers_before, states_before, walked_copy}
 
 -- the pin was walked n records back to the state x, which is the last of the first n + 1 of these, and it shows x beside each
--- of them; the current state is the first
+-- of them, and has no parts; the current state is the first
 pub record IsWalked (p : PinContents) (x : HeapState) (n : ℕ)
     (states : List HeapState) : Type 0 where
+  pub whole : IsWhole p
   pub pin : IsPinOf p x
   pub last : slice_get states n ≡ Some x
   pub shows : OfFirst (ShowsState p x) n states
 
--- the pin was walked to a state to which a step led that left this record, and shows it beside the current state w
+-- the pin was walked to a state to which a step led that left this record, and shows it beside the current state w, without parts
 abbrev pub CanWalk : Undo → HeapState → PinContents → Type 0
 CanWalk left w p =
     (x : HeapState) × (e : Event) × IsStep e (undone left x) x left × IsPinOf p x × ShowsState p x w
+    × IsWhole p
 
 -- p was walked one record further back, beside the current state w, and is q
 pub record IsWalkedBack (left : Undo) (w : HeapState) (p q : PinContents) : Type 0 where
   pub classes : q.classes ≡ classes_before left p.classes
   pub registers : q.registers ≡ registers_before left p.registers
   pub as_many : length q.copies ≡ length p.copies
+  pub parts : q.parts ≡ p.parts
   pub cells : AreCells q.cells (length p.copies)
   pub copies : WalksFor left w p q
   pub states : ShowsBack left w p q

@@ -11,6 +11,7 @@ ghost use Rattle.heap_pins.specs.Laws.{KeepsOthers, EventKeeps, EventExtends, Is
 mod cells;
 mod kept;
 mod numbers;
+mod parts;
 mod pin;
 mod reads;
 mod region_copy;

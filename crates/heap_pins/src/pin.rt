@@ -2,18 +2,22 @@
 ghost use Rattle.std.specs.Prelude.{◌≡◌, ◌<◌, [], length, None, Some, IsSome, IfOk, IfErr, OnOk, OnErr, slice_index_or, slice_set, replicate, is_some, if◌then◌else◌};
 ghost use Rattle.heap_class.specs.declared.Refusal.TheVariants.{NoMemory};
 ghost use Rattle.heap_region.specs.Limits.{cell_limit};
+ghost use Rattle.heap_region.specs.Regions.{object_at};
 ghost use Rattle.heap_world.specs.State.{HeapState};
 ghost use Rattle.heap_step.specs.declared.Event.{Event};
 ghost use Rattle.heap_step.specs.declared.Undo.TheVariants.{Sweep};
 ghost use Rattle.heap_step.specs.Laws.{IsStep};
+ghost use Rattle.heap_pins.specs.Parts.{part_at, part_before};
 ghost use Rattle.heap_pins.specs.Pin.{state_seen};
 ghost use Rattle.heap_pins.specs.KeptCopies.{ends_cycle, has_copy, kept, noted, touched, with_byte};
+ghost use Rattle.heap_pins.specs.KeptCopies.{Overwritten, goes_by_part, kept_if, kept_word, with_part, words_in};
 ghost use Rattle.heap_pins.specs.SharedCopies.{SharesBefore};
 ghost use Rattle.heap_pins.specs.States.{AreOf, AreSettled};
 ghost use Rattle.heap_pins.specs.WalkedPins.{IsFreshPin};
 
 use crate::cells::{TAKEN, restore_states, settle_states, states_now};
 use crate::kept::{KeptRegions, blank, copied, filled, make_live};
+use crate::parts::{KeptParts, PartCopy};
 use crate::region_copy::{RegionCopy, copy_before};
 use heap_class::{ObjRef, Refusal};
 use heap_step::Undo;
@@ -22,15 +26,16 @@ use heap_world::World;
 use std::alloc::Global;
 use std::marker::Model;
 
-/// A past state as a dump shows it. It has the registers, the number of classes, and copies of the regions that were
-/// overwritten since. A region that isn't overwritten yet is read from the heap: its objects that weren't made since, live as
-/// they are, or all of them if a cycle ended since.
+/// A past state as a dump shows it. It has the registers, the number of classes, copies of the regions that were overwritten
+/// since, and of the parts of large objects that were. A region that isn't overwritten yet is read from the heap: its objects
+/// that weren't made since, live as they are, or all of them if a cycle ended since; and over it the parts.
 #[derive(Drop)]
 pub struct Pin {
     pub(crate) classes: u64,
     pub(crate) registers: Vec<u64>,
     pub(crate) ended: bool,
     pub(crate) kept: KeptRegions,
+    pub(crate) parts: KeptParts,
 }
 
 impl Model for Pin {
@@ -45,6 +50,7 @@ impl Model for Pin {
           ended = p.ended;
           copies = p.kept.copies;
           cells = p.kept.cells;
+          parts = p.parts;
         } };
 }
 
@@ -116,6 +122,7 @@ impl Pin {
             registers,
             ended: false,
             kept,
+            parts: KeptParts::new(alloc),
         })
     }
 
@@ -129,8 +136,8 @@ impl Pin {
     }
 
     /// Keeps of a step what the pin needs of it, by the step's record: a copy of the region of which it overwrote a word or
-    /// removed an object, if the pin has none, with what the record has of it; the cells that it took; and whether it ended a
-    /// cycle. The step must have left this record and led to this state. Pins share the copy: `shared` is the one that other pins
+    /// removed an object, if the pin has none, with what the record has of it, but of a large object only the part of which it
+    /// overwrote a word; the cells that it took; and whether it ended a cycle. The step must have left this record and led to this state. Pins share the copy: `shared` is the one that other pins
     /// have of this step, or None if none has one yet; the pin then puts its own there. Fails with NoMemory if a copy can't be
     /// allocated, and the pin is unchanged then.
     pub fn keep(
@@ -149,7 +156,7 @@ impl Pin {
         ensures shared { SharesBefore left.now world.now shared.new }
     {
         match touched_region(left) {
-            Some(region) => self.keep_copy(world, left, region, shared),
+            Some(region) => self.keep_touched(world, left, region, shared),
             None => {
                 self.note(left);
                 Ok(())
@@ -211,6 +218,71 @@ impl Pin {
         self.kept.set_bytes(region, &filled(byte));
     }
 
+    // Keeps of the region that the step touched what `keep` does.
+    fn keep_touched(
+        &mut self,
+        world: &World,
+        left: &Undo,
+        region: u64,
+        shared: &mut Option<RegionCopy>,
+    ) -> Result<(), Refusal>
+        requires touched { touched left.now ≡ Some region }
+        requires step { (e : Event) × (before : HeapState) × IsStep e before world.now left.now }
+        requires sized { length self.old.copies ≡ length world.now.regions }
+        requires shared { SharesBefore left.now world.now shared.old }
+        ensures kept { OnOk result (self.new ≡ kept left.now world.now self.old) }
+        ensures unchanged { OnErr result (self.new ≡ self.old) }
+        ensures refused { IfErr result (λ e. e ≡ NoMemory) }
+        ensures shared { SharesBefore left.now world.now shared.new }
+    {
+        match left {
+            Undo::Put { at, slot, old } | Undo::Store { at, slot, old, .. } => {
+                if self.goes_by_part(world, *at) {
+                    let part = *slot as u64 / 1024;
+                    match self.parts.part(at.region as u64, part) {
+                        None => return self.add_part(world, *at, *slot as u64, *old),
+                        Some(words) => {
+                            if *slot as usize % 1024 < words.len() {
+                                return Ok(());
+                            }
+                        }
+                    }
+                }
+                self.keep_copy(world, left, region, shared)
+            }
+            _ => self.keep_copy(world, left, region, shared),
+        }
+    }
+
+    // Tells whether the pin keeps a word of the object at this place by its part.
+    fn goes_by_part(&self, world: &World, at: ObjRef) -> bool
+        requires there { IsSome (object_at world.now.regions at) }
+        requires region { at.region < length self.now.copies }
+        ensures { result ≡ goes_by_part world.now self.now at }
+    {
+        at.cell == 0
+            && world.regions().words(at).len() > 1024
+            && !self.has_copy(at.region as u64)
+    }
+
+    // Adds the part that has this slot, with its old word. The pin must have no such part. Fails with NoMemory if an allocation
+    // fails, and the pin is unchanged then.
+    fn add_part(&mut self, world: &World, at: ObjRef, slot: u64, old: u64) -> Result<(), Refusal>
+        requires there { IsSome (object_at world.now.regions at) }
+        requires within { slot < length (words_in world.now at) }
+        requires none { part_at self.old.parts at.region (slot / 1024) ≡ None }
+        ensures added { OnOk result
+            (self.new
+            ≡ with_part at.region (slot / 1024) (part_before slot old (words_in world.now at))
+            self.old) }
+        ensures unchanged { OnErr result (self.new ≡ self.old) }
+        ensures refused { IfErr result (λ e. e ≡ NoMemory) }
+    {
+        let regions = world.regions();
+        let copy = PartCopy::before(regions.allocator(), regions.words(at), slot, old)?;
+        self.parts.add(at.region as u64, slot / 1024, copy)
+    }
+
     // Keeps a copy of the region that the step touched, as it was before the step, unless the pin has one.
     fn keep_copy(
         &mut self,
@@ -223,7 +295,8 @@ impl Pin {
         requires step { (e : Event) × (before : HeapState) × IsStep e before world.now left.now }
         requires sized { length self.old.copies ≡ length world.now.regions }
         requires shared { SharesBefore left.now world.now shared.old }
-        ensures kept { OnOk result (self.new ≡ kept left.now world.now self.old) }
+        ensures kept { OnOk result
+            (self.new ≡ kept_if (Some region) left.now world.now self.old) }
         ensures unchanged { OnErr result (self.new ≡ self.old) }
         ensures refused { IfErr result (λ e. e ≡ NoMemory) }
         ensures shared { SharesBefore left.now world.now shared.new }

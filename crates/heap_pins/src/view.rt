@@ -1,6 +1,6 @@
 //! The view of a pin, of which a dump is made.
 ghost use Rattle.std.specs.Prelude.{◌≡◌};
-ghost use Rattle.heap_pins.specs.View.{ShowsSome};
+ghost use Rattle.heap_pins.specs.View.{ShowsWhole};
 
 use crate::Pin;
 use heap_class::{FirstClasses, IdSize, ObjKind, ObjRef};
@@ -8,7 +8,7 @@ use heap_world::World;
 use hprof_text::{ShownObject, View};
 use std::marker::Model;
 
-/// A pin as a dump shows it, read beside a state that came later, with ids of one size.
+/// A pin without parts as a dump shows it, read beside a state that came later, with ids of one size.
 #[derive(Drop)]
 pub struct PinView<'a> {
     pin: &'a Pin,
@@ -17,19 +17,19 @@ pub struct PinView<'a> {
 }
 
 impl<'a> Model for PinView<'a> {
-    ghost use Rattle.heap_pins.specs.View.{PinShown, ShowsSome};
+    ghost use Rattle.heap_pins.specs.View.{PinShown, ShowsWhole};
 
     ghost Value = { PinShown };
 
     ghost view = { λ v. record { pin = v.pin.now; state = v.world.now; ids = v.ids } };
 
-    ghost invariant = { λ v. ShowsSome v.pin.now v.world.now };
+    ghost invariant = { λ v. ShowsWhole v.pin.now v.world.now };
 }
 
 impl<'a> PinView<'a> {
-    /// Creates the view of a pin beside a state. The pin must show some legal state beside it.
+    /// Creates the view of a pin beside a state. The pin must show some legal state beside it, and have no parts.
     pub fn new(pin: &'a Pin, world: &'a World, ids: IdSize) -> PinView<'a>
-        requires { ShowsSome pin.now world.now }
+        requires { ShowsWhole pin.now world.now }
         ensures { result ≡ record { pin = pin.now; state = world.now; ids = ids } }
     {
         PinView { pin, world, ids }

@@ -14,7 +14,7 @@ use Rattle.heap_step.specs.declared.Undo.{Undo}
 use Rattle.heap_step.specs.declared.Undo.TheVariants.{Reclaim, Sweep}
 use Rattle.heap_pins.specs.KeptCopies.{bytes_with, has_copy, kept_at, touched, with_byte, with_copy, with_dead}
 use Rattle.heap_pins.specs.KeptRegions.{IsRevivedTable, KeptContents, blank}
-use Rattle.heap_pins.specs.Pin.{PinContents, cell_state, copy_or_now, region_seen, state_kept, state_seen}
+use Rattle.heap_pins.specs.Pin.{PinContents, IsWhole, cell_state, copy_or_now, region_seen, state_kept, state_seen}
 use Rattle.heap_pins.specs.Shows.{AreFit}
 use Rattle.heap_pins.specs.States.{AreOf, AreRestored, AreSettled, cell_of, cell_states, storage_states}
 use Rattle.heap_pins.specs.Walk.{dead_state, states_before}
@@ -22,6 +22,7 @@ use Rattle.heap_pins.specs.WalkedPins.{IsRevived, without_copy}
 use Rattle.heap_pins.proofs.CellStates.{copied_cell_has_its_byte, free_cell_is_kept}
 use Rattle.heap_pins.proofs.CopiedRegions.{is_not_none, not_some_copy_is_none}
 use Rattle.heap_pins.proofs.OpenedPins.{length_of_blank, zero_in_blank}
+use Rattle.heap_pins.proofs.PartRegions.{whole_pin_sees}
 use Rattle.heap_pins.proofs.RecordCases.{by_region, equal_options_name_same_region, record_that_touches_no_region, sweep_touches_its_region}
 
 -- ---- a copy is put
@@ -62,10 +63,9 @@ bytes_are_set p i k at fresh byte bytes is put same =
     ∙ ap (λ l. (let t : PinContents = record i { cells = set i.cells at.region l } in t)) same
     ∙ ap (with_byte at fresh byte) is
 
--- what the pin sees of a region, by its copy
-pub region_seen_by : (p : PinContents) (regions : List Region) (r : ℕ) (x : Option Frozen) → slice_index_or p.copies r None ≡ x → region_seen p regions r ≡ copy_or_now x (region_frozen regions r)
-unfolding region_seen
-region_seen_by p regions r x e = ap (λ z. copy_or_now z (region_frozen regions r)) e
+-- what a pin without parts sees of a region, by its copy
+pub region_seen_by : (p : PinContents) (regions : List Region) (r : ℕ) (x : Option Frozen) → IsWhole p → slice_index_or p.copies r None ≡ x → region_seen p regions r ≡ copy_or_now x (region_frozen regions r)
+region_seen_by p regions r x whole e = whole_pin_sees p regions r whole ∙ ap (λ z. copy_or_now z (region_frozen regions r)) e
 
 pub frozen_used : (regions : List Region) (r : ℕ) → IsSome (region_frozen regions r) → IsSome (used_at regions r)
 unfolding region_frozen

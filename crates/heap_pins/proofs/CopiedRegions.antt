@@ -24,7 +24,7 @@ changed_frozen : (change : UsedRegion → UsedRegion) (patch : Frozen → Frozen
 changed_frozen change patch same None = refl
 changed_frozen change patch same (Some u) = ap Some (same u)
 
-word_copied : (at : ObjRef) (slot old : ℕ) (regions : List Region) → region_frozen (with_word at slot old regions) at.region ≡ option_map (frozen_word_set at.cell slot old) (region_frozen regions at.region)
+pub word_copied : (at : ObjRef) (slot old : ℕ) (regions : List Region) → region_frozen (with_word at slot old regions) at.region ≡ option_map (frozen_word_set at.cell slot old) (region_frozen regions at.region)
 unfolding region_frozen with_word with_object frozen_word_set
 word_copied at slot old regions =
     ap (option_map frozen) (used_region_after_its_change at.region (λ u. record u { cells = updated at.cell (option_map (word_set slot old)) u.cells }) regions)

@@ -1,14 +1,13 @@
 -- A pin through steps and rewinds.
-use Rattle.std.proofs.Common.{◌≡◌, ℕ, zero, suc, List, [], ◌∷◌, take, sym, subst, ◌∙◌}
+use Rattle.std.proofs.Common.{◌≡◌, ℕ, zero, suc, List, [], ◌∷◌, take, sym, ◌∙◌}
 use Rattle.heap_world.specs.State.{HeapState}
 use Rattle.heap_step.specs.declared.Undo.{Undo}
 use Rattle.heap_step.specs.Records.{undone}
 use Rattle.heap_pins.specs.Images.{image_of}
 use Rattle.heap_pins.specs.Pin.{PinContents, pin_image, places_seen}
 use Rattle.heap_pins.specs.KeptCopies.{kept}
-use Rattle.heap_pins.specs.Shows.{AreCells, IsPinOf, ShowsState, KeepsFor, OfFirst, Holds}
-use Rattle.heap_pins.proofs.ShownStates.{kept_pin_shows_state_before, kept_pin_shows_state_after}
-use Rattle.heap_pins.proofs.KeptPins.{kept_pin_keeps_for_step}
+use Rattle.heap_pins.specs.Shows.{ShowsState, OfFirst, Holds}
+use Rattle.heap_pins.proofs.PartSteps.{GoesOn, kept_pin_goes_on}
 use Rattle.heap_region.specs.Regions.{live_places}
 use Rattle.heap_pins.proofs.ShownImages.{image_is}
 use Rattle.heap_pins.proofs.ShownPlaces.{shown_places_are_live}
@@ -37,28 +36,17 @@ held_image p u n w past h = image_is p u w h.pin (property_of_first_state (Shows
 pub held_places : (p : PinContents) (u : HeapState) (n : ℕ) (w : HeapState) (past : List HeapState) → Holds p u n (w ∷ past) → places_seen p w.regions ≡ live_places u.regions
 held_places p u n w past h = shown_places_are_live p u w h.pin (property_of_first_state (ShowsState p u) n w past h.shows)
 
--- the pin keeps what it has to
-still_pin : (left : Undo) (v : HeapState) (p q : PinContents) (u : HeapState) → KeepsFor left v p q → IsPinOf p u → IsPinOf q u
-still_pin left v p q u k i = record {
-  legal = i.legal;
-  classes = k.classes ∙ i.classes;
-  registers = k.registers ∙ i.registers;
-  copies = k.as_many ∙ i.copies;
-  cells = subst (AreCells q.cells) i.copies k.cells;
-}
-
 -- a step that left this record and the state v, of which k states are retained
 pub pin_stepped : (left : Undo) (v : HeapState) (p : PinContents) (u : HeapState) (n k : ℕ) (past : List HeapState) → Holds p u n (undone left v ∷ past) → Holds (kept left v p) u (suc n) (v ∷ take k (undone left v ∷ past))
 pin_stepped left v p u n k past h =
     let w : HeapState = undone left v in
     let q : PinContents = kept left v p in
-    let before : ShowsState p u w = property_of_first_state (ShowsState p u) n w past h.shows in
-    let keeps : KeepsFor left v p q = kept_pin_keeps_for_step left v p (h.pin.copies ∙ sym before.count) (subst (AreCells p.cells) (sym h.pin.copies) h.pin.cells) in
+    let on : GoesOn v p q u = kept_pin_goes_on left v p u h.pin (property_of_first_state (ShowsState p u) n w past h.shows) in
     record {
-      pin = still_pin left v p q u keeps h.pin;
+      pin = on.pin h.pin;
       shows = (
-        kept_pin_shows_state_after left v p q u keeps before,
-        of_fewer (ShowsState q u) n k (w ∷ past) (weaker_property_of_first_states (ShowsState p u) (ShowsState q u) (λ x. kept_pin_shows_state_before left v p q u x keeps before) n (w ∷ past) h.shows),
+        on.after,
+        of_fewer (ShowsState q u) n k (w ∷ past) (weaker_property_of_first_states (ShowsState p u) (ShowsState q u) on.before n (w ∷ past) h.shows),
       );
     }
 

@@ -12,7 +12,7 @@ use Rattle.heap_step.specs.declared.Undo.{Undo}
 use Rattle.heap_step.specs.declared.Undo.TheVariants.{Put, Store, New, Finish, Sweep, Reclaim}
 use Rattle.heap_step.specs.Records.{undone}
 use Rattle.heap_pins.specs.Covers.{Covers}
-use Rattle.heap_pins.specs.KeptCopies.{touched, copy_for, with_copy, kept_at, has_copy, states_before_step, kept_if, with_byte, kept}
+use Rattle.heap_pins.specs.KeptCopies.{touched, copy_for, with_copy, kept_at, has_copy, states_before_step, kept_if, with_byte, kept_by_copy}
 use Rattle.heap_pins.specs.Pin.{PinContents, state_seen}
 use Rattle.heap_pins.specs.Shows.{AreCells, KeepsRegion, KeepsFor}
 use Rattle.heap_pins.proofs.CellStates.{ShowsCell, length_states}
@@ -26,11 +26,12 @@ abbrev ShowsCells : Undo → HeapState → PinContents → PinContents → Type 
 ShowsCells left v p q = (at : ObjRef) → at.cell < 256 → ShowsCell p q (undone left v).regions v.regions at
 
 -- a step that touches no region leaves the copies
-untouching_step_keeps : (left : Undo) (v : HeapState) (p q : PinContents) → touched left ≡ None → q.classes ≡ p.classes → q.registers ≡ p.registers → q.copies ≡ p.copies → AreCells q.cells (length p.copies) → ShowsCells left v p q → KeepsFor left v p q
-untouching_step_keeps left v p q none classes registers copies cells shows = record {
+untouching_step_keeps : (left : Undo) (v : HeapState) (p q : PinContents) → touched left ≡ None → q.classes ≡ p.classes → q.registers ≡ p.registers → q.copies ≡ p.copies → q.parts ≡ p.parts → AreCells q.cells (length p.copies) → ShowsCells left v p q → KeepsFor left v p q
+untouching_step_keeps left v p q none classes registers copies parts cells shows = record {
   classes = classes;
   registers = registers;
   as_many = ap length copies;
+  parts = parts;
   cells = cells;
   each = λ r. inl (ap (λ l. slice_index_or l r None) copies);
   done = λ r t. no_region_is_named r _ (sym none ∙ t);
@@ -78,14 +79,14 @@ module _ (left : Undo) (v : HeapState) (p : PinContents) (sized : length p.copie
   done_at q t states true e none = absurd (is_not_none (copy_at p.copies q) e none)
   done_at q t states false e none = made_done q t states (copy_for left v q) refl none
 
-  alike_with : (q : ℕ) (c : Option Frozen) (states : List ℕ) → ((with_copy q c states p).classes ≡ p.classes) × ((with_copy q c states p).registers ≡ p.registers) × (length (with_copy q c states p).copies ≡ length p.copies)
+  alike_with : (q : ℕ) (c : Option Frozen) (states : List ℕ) → ((with_copy q c states p).classes ≡ p.classes) × ((with_copy q c states p).registers ≡ p.registers) × (length (with_copy q c states p).copies ≡ length p.copies) × ((with_copy q c states p).parts ≡ p.parts)
   unfolding with_copy
-  alike_with q None states = (refl, refl, refl)
-  alike_with q (Some f) states = (refl, refl, length-set p.copies q (Some f))
+  alike_with q None states = (refl, refl, refl, refl)
+  alike_with q (Some f) states = (refl, refl, length-set p.copies q (Some f), refl)
 
-  alike_at : (q : ℕ) (c : Option Frozen) (states : List ℕ) (b : Bool) → ((kept_at q c states b p).classes ≡ p.classes) × ((kept_at q c states b p).registers ≡ p.registers) × (length (kept_at q c states b p).copies ≡ length p.copies)
+  alike_at : (q : ℕ) (c : Option Frozen) (states : List ℕ) (b : Bool) → ((kept_at q c states b p).classes ≡ p.classes) × ((kept_at q c states b p).registers ≡ p.registers) × (length (kept_at q c states b p).copies ≡ length p.copies) × ((kept_at q c states b p).parts ≡ p.parts)
   unfolding kept_at
-  alike_at q c states true = (refl, refl, refl)
+  alike_at q c states true = (refl, refl, refl, refl)
   alike_at q c states false = alike_with q c states
 
   cells_at : (q : ℕ) (c : Option Frozen) (states : List ℕ) → length states ≡ 256 → (b : Bool) → AreCells (kept_at q c states b p).cells (length p.copies)
@@ -102,6 +103,7 @@ module _ (left : Undo) (v : HeapState) (p : PinContents) (sized : length p.copie
         classes = a.0;
         registers = a.1;
         as_many = a.2;
+        parts = a.3;
         cells = cells_at q (copy_for left v q) states (length_states (state_seen p (undone left v).regions) (256 * q) 256) (has_copy q p);
         each = each_at q t states (has_copy q p) refl;
         done = λ r e none. (let same : q ≡ r = equal_options_name_same_region q r (sym t ∙ e) in
@@ -112,20 +114,20 @@ module _ (left : Undo) (v : HeapState) (p : PinContents) (sized : length p.copie
 
 -- a new object's cell is taken, unless the pin has a copy of its region (the flag)
 new_step_keeps : (left : Undo) (v : HeapState) (p : PinContents) (at : ObjRef) (fresh : Bool) → touched left ≡ None → AreCells p.cells (length p.copies) → (b : Bool) → ShowsCells left v p (if b then p else with_byte at fresh 1 p) → KeepsFor left v p (if b then p else with_byte at fresh 1 p)
-new_step_keeps left v p at fresh none cells true shows = untouching_step_keeps left v p p none refl refl refl cells shows
-new_step_keeps left v p at fresh none cells false shows = untouching_step_keeps left v p (with_byte at fresh 1 p) none refl refl refl (cells_with_byte_are_cells at fresh 1 p (length p.copies) cells) shows
+new_step_keeps left v p at fresh none cells true shows = untouching_step_keeps left v p p none refl refl refl refl cells shows
+new_step_keeps left v p at fresh none cells false shows = untouching_step_keeps left v p (with_byte at fresh 1 p) none refl refl refl refl (cells_with_byte_are_cells at fresh 1 p (length p.copies) cells) shows
 
 -- each step
-keeps_by_record : (left : Undo) (v : HeapState) (p : PinContents) → length p.copies ≡ length (undone left v).regions → AreCells p.cells (length p.copies) → ShowsCells left v p (kept left v p) → KeepsFor left v p (kept left v p)
-unfolding kept kept_if touched
+keeps_by_record : (left : Undo) (v : HeapState) (p : PinContents) → length p.copies ≡ length (undone left v).regions → AreCells p.cells (length p.copies) → ShowsCells left v p (kept_by_copy left v p) → KeepsFor left v p (kept_by_copy left v p)
+unfolding kept_by_copy kept_if touched
 keeps_by_record (New at fresh m k old) v p sized cells shows = new_step_keeps (New at fresh m k old) v p at fresh refl cells (has_copy at.region p) shows
-keeps_by_record (Finish log) v p sized cells shows = untouching_step_keeps (Finish log) v p (record p { ended = true }) refl refl refl refl cells shows
+keeps_by_record (Finish log) v p sized cells shows = untouching_step_keeps (Finish log) v p (record p { ended = true }) refl refl refl refl refl cells shows
 keeps_by_record (Put at slot old) v p sized cells shows = touching_step_keeps (Put at slot old) v p sized cells at.region refl shows
 keeps_by_record (Store at slot old logged) v p sized cells shows = touching_step_keeps (Store at slot old logged) v p sized cells at.region refl shows
 keeps_by_record (Sweep region (d ∷ dead)) v p sized cells shows = touching_step_keeps (Sweep region (d ∷ dead)) v p sized cells region refl shows
 keeps_by_record (Reclaim region storage) v p sized cells shows = touching_step_keeps (Reclaim region storage) v p sized cells region refl shows
-keeps_by_record left v p sized cells shows = untouching_step_keeps left v p p refl refl refl refl cells shows
+keeps_by_record left v p sized cells shows = untouching_step_keeps left v p p refl refl refl refl refl cells shows
 
 -- a pin with a place for each region keeps what it has to
-pub kept_pin_keeps_for_step : (left : Undo) (v : HeapState) (p : PinContents) → length p.copies ≡ length (undone left v).regions → AreCells p.cells (length p.copies) → KeepsFor left v p (kept left v p)
+pub kept_pin_keeps_for_step : (left : Undo) (v : HeapState) (p : PinContents) → length p.copies ≡ length (undone left v).regions → AreCells p.cells (length p.copies) → KeepsFor left v p (kept_by_copy left v p)
 kept_pin_keeps_for_step left v p sized cells = keeps_by_record left v p sized cells (λ at lt. kept_cell_is_shown left v p at sized cells lt)

@@ -12,7 +12,7 @@ use Rattle.heap_world.specs.State.{HeapState}
 use Rattle.heap_step.specs.declared.Undo.{Undo}
 use Rattle.heap_step.specs.declared.Undo.TheVariants.{Put, Store, New, Finish, Sweep, Reclaim}
 use Rattle.heap_step.specs.Records.{undone}
-use Rattle.heap_pins.specs.KeptCopies.{touched, patched, copy_for, with_copy, kept_at, has_copy, states_before_step, kept_if, bytes_with, with_byte, kept}
+use Rattle.heap_pins.specs.KeptCopies.{touched, patched, copy_for, with_copy, kept_at, has_copy, states_before_step, kept_if, bytes_with, with_byte, kept_by_copy}
 use Rattle.heap_pins.specs.Pin.{PinContents, byte_in, state_seen, states_of_region}
 use Rattle.heap_pins.specs.Shows.{AreCells}
 use Rattle.heap_pins.specs.States.{cell_states}
@@ -246,8 +246,8 @@ quiet_is_shown left v p b none stays = unchanged_cell_is_shown p p (undone left 
 
 -- ---- every step
 
-pub kept_cell_is_shown : (left : Undo) (v : HeapState) (p : PinContents) (b : ObjRef) → length p.copies ≡ length (undone left v).regions → AreCells p.cells (length p.copies) → b.cell < 256 → ShowsCell p (kept left v p) (undone left v).regions v.regions b
-unfolding kept kept_if touched states_before
+pub kept_cell_is_shown : (left : Undo) (v : HeapState) (p : PinContents) (b : ObjRef) → length p.copies ≡ length (undone left v).regions → AreCells p.cells (length p.copies) → b.cell < 256 → ShowsCell p (kept_by_copy left v p) (undone left v).regions v.regions b
+unfolding kept_by_copy kept_if touched states_before
 kept_cell_is_shown (New at fresh m k old) v p b sized cells few = new_is_shown at fresh m k old v p b sized cells few
 kept_cell_is_shown (Finish log) v p b sized cells few = ended_cell_is_shown p (undone (Finish log) v).regions v.regions b (cell_states_before_elsewhere (Finish log) v b no_named_region)
 kept_cell_is_shown (Put at slot old) v p b sized cells few = copy_is_shown (Put at slot old) v p at.region b refl sized cells few

@@ -1,15 +1,18 @@
 -- What a pin makes of a step is what it has to keep of it.
-use Rattle.std.proofs.Common.{◌≡◌, ◌≢◌, ℕ, Bool, true, false, List, [], ◌∷◌, length, Some, None, refl, sym, ap, ◌∙◌, arith}
-use Rattle.std.specs.Prelude.{slice_index_or}
+use Rattle.std.proofs.Common.{◌≡◌, ◌≢◌, ℕ, ◌/◌, ◌%◌, ◌<◌, Bool, true, false, List, [], ◌∷◌, length, Option, Some, None, IsSome, IfSome, refl, sym, ap, subst, ◌∙◌, arith}
+use Rattle.std.specs.Prelude.{nat_lt, slice_index_or, if◌then◌else◌}
 use Rattle.heap_class.specs.declared.ObjRef.{ObjRef}
-use Rattle.heap_region.specs.Regions.{Object}
+use Rattle.heap_region.specs.Regions.{Object, object_at}
+use Rattle.heap_region.specs.Layout.{words_of}
 use Rattle.heap_world.specs.State.{HeapState}
 use Rattle.heap_step.specs.declared.Event.{Event}
 use Rattle.heap_step.specs.declared.Undo.{Undo}
-use Rattle.heap_step.specs.declared.Undo.TheVariants.{New, Finish, Sweep}
+use Rattle.heap_step.specs.declared.Undo.TheVariants.{Put, Store, New, Finish, Sweep}
 use Rattle.heap_step.specs.Laws.{IsStep}
 use Rattle.heap_step.specs.Records.{undone}
-use Rattle.heap_pins.specs.KeptCopies.{copy_for, has_copy, kept, kept_if, states_before_step, touched, with_copy}
+use Rattle.heap_step.proofs.Steps.{put_record_names_an_object, put_record_slot_within_object, store_there, store_within}
+use Rattle.heap_pins.specs.KeptCopies.{Overwritten, copy_for, goes_by_part, has_copy, kept, kept_by_copy, kept_if, kept_part, kept_word, states_before_step, touched, with_copy, with_part, words_in, written}
+use Rattle.heap_pins.specs.Parts.{part_at, part_before}
 use Rattle.heap_pins.specs.Pin.{PinContents, state_seen}
 use Rattle.heap_pins.specs.States.{AreOf, AreSettled, cell_of, cell_states}
 use Rattle.heap_pins.specs.Walk.{states_before}
@@ -20,19 +23,19 @@ use Rattle.heap_pins.proofs.States.{cell_states_before_step}
 
 -- ---- a step that touched a region
 
-touched_step_is_kept : (left : Undo) (v : HeapState) (p : PinContents) (r : ℕ) → touched left ≡ Some r → kept_if (Some r) left v p ≡ kept left v p
-unfolding kept touched
+touched_step_is_kept : (left : Undo) (v : HeapState) (p : PinContents) (r : ℕ) → touched left ≡ Some r → kept_if (Some r) left v p ≡ kept_by_copy left v p
+unfolding kept_by_copy touched
 touched_step_is_kept (New at fresh m k old) v p r t = no_region_is_named r _ t
 touched_step_is_kept (Finish log) v p r t = no_region_is_named r _ t
 touched_step_is_kept left v p r t = ap (λ x. kept_if x left v p) (sym t)
 
 -- a pin with a copy of the region stays as it is
-pub copied_region_keeps_the_pin : (left : Undo) (v : HeapState) (p : PinContents) (r : ℕ) → touched left ≡ Some r → has_copy r p ≡ true → p ≡ kept left v p
+pub copied_region_keeps_the_pin : (left : Undo) (v : HeapState) (p : PinContents) (r : ℕ) → touched left ≡ Some r → has_copy r p ≡ true → p ≡ kept_by_copy left v p
 unfolding kept_if
 copied_region_keeps_the_pin left v p r t some = settled_pin_stays r (copy_for left v r) (states_before_step left v r p) p some ∙ touched_step_is_kept left v p r t
 
 -- any other gets one
-pub copied_region_is_kept : (left : Undo) (v : HeapState) (p q : PinContents) (r : ℕ) → touched left ≡ Some r → has_copy r p ≡ false → q ≡ with_copy r (copy_for left v r) (states_before_step left v r p) p → q ≡ kept left v p
+pub copied_region_is_kept : (left : Undo) (v : HeapState) (p q : PinContents) (r : ℕ) → touched left ≡ Some r → has_copy r p ≡ false → q ≡ with_copy r (copy_for left v r) (states_before_step left v r p) p → q ≡ kept_by_copy left v p
 unfolding kept_if
 copied_region_is_kept left v p q r t free is = is ∙ free_pin_keeps r (copy_for left v r) (states_before_step left v r p) p free ∙ touched_step_is_kept left v p r t
 
@@ -57,8 +60,74 @@ sweep_of_some_touches_its_region region (d ∷ dead) some = refl
 
 -- ---- a step that touched no region
 
-pub untouching_record_keeps_the_pin : (left : Undo) (v : HeapState) (p : PinContents) → touched left ≡ None → ((at : ObjRef) (fresh : Bool) (m r old : ℕ) → left ≡ New at fresh m r old → ⊥) → ((log : List ℕ) → left ≡ Finish log → ⊥) → p ≡ kept left v p
-unfolding kept kept_if
+pub untouching_record_keeps_the_pin : (left : Undo) (v : HeapState) (p : PinContents) → touched left ≡ None → ((at : ObjRef) (fresh : Bool) (m r old : ℕ) → left ≡ New at fresh m r old → ⊥) → ((log : List ℕ) → left ≡ Finish log → ⊥) → p ≡ kept_by_copy left v p
+unfolding kept_by_copy kept_if
 untouching_record_keeps_the_pin (New at fresh m k old) v p none a b = absurd (a at fresh m k old refl)
 untouching_record_keeps_the_pin (Finish log) v p none a b = absurd (b log refl)
 untouching_record_keeps_the_pin left v p none a b = ap (λ t. kept_if t left v p) (sym none)
+
+-- and so it does if it keeps words by parts
+pub untouching_record_keeps_by_copy : (left : Undo) (v : HeapState) (p : PinContents) → touched left ≡ None → kept_by_copy left v p ≡ kept left v p
+unfolding kept touched
+untouching_record_keeps_by_copy (Put at slot old) v p none = absurd (cc)
+untouching_record_keeps_by_copy (Store at slot old logged) v p none = absurd (cc)
+untouching_record_keeps_by_copy left v p none = refl
+
+-- ---- a step that overwrote a word
+
+equal_words : {o x : Overwritten} → Some o ≡ Some x → o ≡ x
+equal_words e = cc
+
+pub word_is_kept_so : (left : Undo) (v : HeapState) (p : PinContents) (o : Overwritten) → written left ≡ Some o → kept left v p ≡ kept_word (goes_by_part v p o.at) o left v p
+unfolding written kept
+word_is_kept_so (Put at slot old) v p o e = ap (λ (x : Overwritten). kept_word (goes_by_part v p x.at) x (Put at slot old) v p) (equal_words e)
+word_is_kept_so (Store at slot old logged) v p o e = ap (λ (x : Overwritten). kept_word (goes_by_part v p x.at) x (Store at slot old logged) v p) (equal_words e)
+word_is_kept_so left v p o e = absurd (cc)
+
+-- a record that overwrote none
+pub no_word_is_kept_so : (left : Undo) (v : HeapState) (p : PinContents) → written left ≡ None → kept left v p ≡ kept_by_copy left v p
+unfolding written kept
+no_word_is_kept_so (Put at slot old) v p e = absurd (cc)
+no_word_is_kept_so (Store at slot old logged) v p e = absurd (cc)
+no_word_is_kept_so left v p e = refl
+
+-- by a copy
+pub word_by_copy_is_kept : (left : Undo) (v : HeapState) (p : PinContents) (o : Overwritten) → written left ≡ Some o → goes_by_part v p o.at ≡ false → kept_by_copy left v p ≡ kept left v p
+unfolding kept_word
+word_by_copy_is_kept left v p o e no = sym (word_is_kept_so left v p o e ∙ ap (λ b. kept_word b o left v p) no)
+
+-- by a part that is added
+pub word_by_new_part_is_kept : (left : Undo) (v : HeapState) (p : PinContents) (o : Overwritten) → written left ≡ Some o → goes_by_part v p o.at ≡ true → part_at p.parts o.at.region (o.slot / 1024) ≡ None
+    → with_part o.at.region (o.slot / 1024) (part_before o.slot o.old (words_in v o.at)) p ≡ kept left v p
+unfolding kept_word kept_part
+word_by_new_part_is_kept left v p o e yes none = sym (word_is_kept_so left v p o e ∙ ap (λ b. kept_word b o left v p) yes ∙ ap (λ x. kept_part x o left v p) none)
+
+-- by a part that is there, or, if that doesn't reach the slot, by a copy
+pub word_by_old_part_is_kept : (left : Undo) (v : HeapState) (p : PinContents) (o : Overwritten) (ws : List ℕ) (b : Bool) → written left ≡ Some o → goes_by_part v p o.at ≡ true → part_at p.parts o.at.region (o.slot / 1024) ≡ Some ws → nat_lt (o.slot % 1024) (length ws) ≡ b
+    → (if b then p else kept_by_copy left v p) ≡ kept left v p
+unfolding kept_word kept_part
+word_by_old_part_is_kept left v p o ws b e yes some reaches = sym (word_is_kept_so left v p o e ∙ ap (λ b. kept_word b o left v p) yes ∙ ap (λ x. kept_part x o left v p) some ∙ ap (λ t. if t then p else kept_by_copy left v p) reaches)
+
+-- what the record of a step says of the word
+pub record IsWordOf (v : HeapState) (left : Undo) (o : Overwritten) : Type 0 where
+  pub there : IsSome (object_at v.regions o.at)
+  pub within : o.slot < length (words_in v o.at)
+  pub region : touched left ≡ Some o.at.region
+
+slot_is_in_words : (x : Option Object) (slot : ℕ) → IsSome x → IfSome x (λ o. slot < length o.words) → slot < length (words_of x)
+slot_is_in_words None slot some within = absurd (cc)
+slot_is_in_words (Some o) slot some within = within
+
+pub written_word_is_of_object : (e : Event) (before v : HeapState) (left : Undo) → IsStep e before v left → (o : Overwritten) → written left ≡ Some o → IsWordOf v left o
+unfolding written touched
+written_word_is_of_object e before v (Put at slot old) s o is = subst (IsWordOf v (Put at slot old)) (equal_words is) (record {
+  there = put_record_names_an_object e before v (Put at slot old) s at slot old refl;
+  within = slot_is_in_words (object_at v.regions at) slot (put_record_names_an_object e before v (Put at slot old) s at slot old refl) (put_record_slot_within_object e before v (Put at slot old) s at slot old refl);
+  region = refl;
+})
+written_word_is_of_object e before v (Store at slot old logged) s o is = subst (IsWordOf v (Store at slot old logged)) (equal_words is) (record {
+  there = store_there e before v (Store at slot old logged) s at slot old logged refl;
+  within = slot_is_in_words (object_at v.regions at) slot (store_there e before v (Store at slot old logged) s at slot old logged refl) (store_within e before v (Store at slot old logged) s at slot old logged refl);
+  region = refl;
+})
+written_word_is_of_object e before v left s o is = absurd (cc)

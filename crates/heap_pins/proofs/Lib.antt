@@ -3,6 +3,8 @@ pub mod CoveringCopies
 pub mod Others
 pub mod Classes
 pub mod CellStates
+pub mod PartWords
+pub mod PartRegions
 pub mod ShownStates
 pub mod LiveCounts
 pub mod DumpLimits
@@ -15,6 +17,7 @@ pub mod LiveBytes
 pub mod AddedCopies
 pub mod RoomForCopies
 pub mod OpenedPins
+pub mod PartSteps
 pub mod HeldPins
 pub mod WalkSteps
 pub mod States

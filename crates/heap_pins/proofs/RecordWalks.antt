@@ -16,7 +16,7 @@ use Rattle.heap_step.specs.Records.{undone}
 use Rattle.heap_step.proofs.EventLaws.{undo_restores}
 use Rattle.heap_pins.specs.KeptCopies.{touched, has_copy, with_copy}
 use Rattle.heap_pins.specs.KeptRegions.{blank, byte_revived}
-use Rattle.heap_pins.specs.Pin.{PinContents, byte_in, region_seen, state_kept, state_seen, states_of_region}
+use Rattle.heap_pins.specs.Pin.{PinContents, IsWhole, byte_in, region_seen, state_kept, state_seen, states_of_region}
 use Rattle.heap_pins.specs.Shows.{AreCells, IsPinOf, ShowsState, OfFirst, Holds}
 use Rattle.heap_pins.specs.States.{cell_states}
 use Rattle.heap_pins.specs.Walk.{ShowsBack, TellsBefore, states_before, registers_before, classes_before, walked_copy}
@@ -32,11 +32,12 @@ use Rattle.heap_pins.proofs.WalkInvariants.{walk_shows_beside_later_state, walk_
 
 -- ---- the start
 
-pub opened_pin_walk_begins : (p : PinContents) (w : HeapState) (past : List HeapState) → IsLegal w → p.classes ≡ length w.classes → p.registers ≡ w.registers → p.ended ≡ false → p.copies ≡ replicate (length w.regions) None → p.cells ≡ replicate (length w.regions) blank
+pub opened_pin_walk_begins : (p : PinContents) (w : HeapState) (past : List HeapState) → IsWhole p → IsLegal w → p.classes ≡ length w.classes → p.registers ≡ w.registers → p.ended ≡ false → p.copies ≡ replicate (length w.regions) None → p.cells ≡ replicate (length w.regions) blank
     → IsWalked p w 0 (w ∷ past)
-opened_pin_walk_begins p w past legal classes registers ended copies cells =
+opened_pin_walk_begins p w past whole legal classes registers ended copies cells =
     let none : Option Frozen = None in
     record {
+      whole = whole;
       pin = record {
         legal = legal;
         classes = classes;
@@ -45,7 +46,7 @@ opened_pin_walk_begins p w past legal classes registers ended copies cells =
         cells = subst (λ (cs : List (List ℕ)). AreCells cs (length w.regions)) (sym cells) (blank_cells_are_cells (length w.regions));
       };
       last = refl;
-      shows = opened_pin_shows_its_state p w ended copies cells;
+      shows = opened_pin_shows_its_state p w whole ended copies cells;
     }
 
 -- ---- one record
@@ -61,6 +62,7 @@ copy_walks_back left w p r f t lt cells registers classes is = record {
   classes = sym classes;
   registers = sym registers;
   as_many = length-set p.copies r (Some f);
+  parts = refl;
   cells = cells_with_copy_are_cells r (Some f) states p (length p.copies) (length_states (states_before left (state_seen p w.regions)) (256 * r) 256) cells;
   copies = record {
     others = λ i ne. get_or-set_other p.copies r i (Some f) None (λ e. ne (t ∙ ap Some (sym e)));
@@ -86,12 +88,13 @@ walk_back_with_copy left w p q r f t lt cells registers classes is h =
     (copy_walks_back left w p r f t lt cells registers classes is)
 
 -- a record that names none
-pub walk_back_without_copy : (left : Undo) (w : HeapState) (p q : PinContents) → touched left ≡ None → q.classes ≡ classes_before left p.classes → q.registers ≡ registers_before left p.registers → q.copies ≡ p.copies → AreCells q.cells (length p.copies) → ShowsBack left w p q
+pub walk_back_without_copy : (left : Undo) (w : HeapState) (p q : PinContents) → touched left ≡ None → q.classes ≡ classes_before left p.classes → q.registers ≡ registers_before left p.registers → q.copies ≡ p.copies → q.parts ≡ p.parts → AreCells q.cells (length p.copies) → ShowsBack left w p q
     → IsWalkedBack left w p q
-walk_back_without_copy left w p q t classes registers copies cells states = record {
+walk_back_without_copy left w p q t classes registers copies parts cells states = record {
   classes = classes;
   registers = registers;
   as_many = ap length copies;
+  parts = parts;
   cells = cells;
   copies = record {
     others = λ i ne. ap (λ cs. slice_index_or cs i None) copies;
@@ -104,10 +107,10 @@ walk_back_without_copy left w p q t classes registers copies cells states = reco
     clash e = cc
 
 -- the cells stay
-pub same_cells_walk_back : (left : Undo) (w : HeapState) (p q : PinContents) → touched left ≡ None → q.classes ≡ classes_before left p.classes → q.registers ≡ registers_before left p.registers → q.copies ≡ p.copies → q.cells ≡ p.cells → q.ended ≡ p.ended
+pub same_cells_walk_back : (left : Undo) (w : HeapState) (p q : PinContents) → touched left ≡ None → q.classes ≡ classes_before left p.classes → q.registers ≡ registers_before left p.registers → q.copies ≡ p.copies → q.parts ≡ p.parts → q.cells ≡ p.cells → q.ended ≡ p.ended
     → ((f : ObjRef → ℕ) (at : ObjRef) → states_before left f at ≡ f at) → AreCells p.cells (length p.copies) → IsWalkedBack left w p q
-same_cells_walk_back left w p q t classes registers copies cells ended stays sized =
-    walk_back_without_copy left w p q t classes registers copies (subst (λ (cs : List (List ℕ)). AreCells cs (length p.copies)) (sym cells) sized)
+same_cells_walk_back left w p q t classes registers copies parts cells ended stays sized =
+    walk_back_without_copy left w p q t classes registers copies parts (subst (λ (cs : List (List ℕ)). AreCells cs (length p.copies)) (sym cells) sized)
     (λ x at few same. same_pin_same_state p q x.regions at ended (ap (λ l. slice_index_or l at.region None) copies) (ap (λ l. byte_in l at) cells) ∙ same ∙ sym (stays (state_seen p w.regions) at))
 
 -- ---- each record
@@ -134,7 +137,7 @@ walk_back_over_touched_region left w p q r f t lt cells is h =
 pub reg_back : (left : Undo) (w : HeapState) (p q : PinContents) (m r old : ℕ) → left ≡ Reg m r old → AreCells p.cells (length p.copies) → q ≡ with_old_register m r old p → IsWalkedBack left w p q
 unfolding touched registers_before classes_before states_before
 reg_back left w p q m r old is cells h = subst (λ l. IsWalkedBack l w p q) (sym is) (subst (IsWalkedBack (Reg m r old) w p) (sym h)
-    (same_cells_walk_back (Reg m r old) w p (with_old_register m r old p) refl refl refl refl refl refl (λ f at. refl) cells))
+    (same_cells_walk_back (Reg m r old) w p (with_old_register m r old p) refl refl refl refl refl refl refl (λ f at. refl) cells))
 
 new_walks_back : (w : HeapState) (p : PinContents) (at : ObjRef) (fresh : Bool) (m r old : ℕ) → AreCells p.cells (length p.copies) → at.region < length p.copies
     → ShowsBack (New at fresh m r old) w p (without_new at fresh (with_old_register m r old p))
@@ -161,7 +164,7 @@ pub walk_back_over_new : (left : Undo) (w : HeapState) (p i q : PinContents) (at
 unfolding touched registers_before classes_before
 walk_back_over_new left w p i q at fresh m r old is cells lt set h = subst (λ l. IsWalkedBack l w p q) (sym is)
     (subst (IsWalkedBack (New at fresh m r old) w p) (sym (h ∙ ap (without_new at fresh) set))
-    (walk_back_without_copy (New at fresh m r old) w p (without_new at fresh (with_old_register m r old p)) refl refl refl refl
+    (walk_back_without_copy (New at fresh m r old) w p (without_new at fresh (with_old_register m r old p)) refl refl refl refl refl
     (cells_with_byte_are_cells at fresh (if has_copy at.region p then 0 else 1) p (length p.copies) cells)
     (new_walks_back w p at fresh m r old cells lt)))
 
@@ -170,7 +173,7 @@ pub class_back : (left : Undo) (w : HeapState) (p i : PinContents) → left ≡ 
 unfolding touched registers_before classes_before states_before
 class_back left w p i is cells same = subst (λ l. IsWalkedBack l w p (record i { classes = i.classes - 1 })) (sym is)
     (subst (λ (z : PinContents). IsWalkedBack Class w p (record z { classes = z.classes - 1 })) (sym same)
-    (same_cells_walk_back Class w p (record p { classes = p.classes - 1 }) refl refl refl refl refl refl (λ f at. refl) cells))
+    (same_cells_walk_back Class w p (record p { classes = p.classes - 1 }) refl refl refl refl refl refl refl (λ f at. refl) cells))
 
 kept_once_ended : (ended : Bool) (byte now : ℕ) → state_kept true byte now ≡ (if state_kept ended byte now == 0 then 0 else 1)
 kept_once_ended ended byte now = go (byte == 0) ended (now == 0) refl
@@ -201,7 +204,7 @@ finish_walks_back log w p q h x b few same = go (slice_index_or p.copies b.regio
 pub walk_back_over_finish : (left : Undo) (w : HeapState) (p q : PinContents) (log : List ℕ) → left ≡ Finish log → AreCells p.cells (length p.copies) → IsRevived p q → IsWalkedBack left w p q
 unfolding touched registers_before classes_before
 walk_back_over_finish left w p q log is cells h = subst (λ l. IsWalkedBack l w p q) (sym is)
-    (walk_back_without_copy (Finish log) w p q refl (ap (λ (z : PinContents). z.classes) h.rest) (ap (λ (z : PinContents). z.registers) h.rest) (ap (λ (z : PinContents). z.copies) h.rest) (h.cells (length p.copies) cells) (finish_walks_back log w p q h))
+    (walk_back_without_copy (Finish log) w p q refl (ap (λ (z : PinContents). z.classes) h.rest) (ap (λ (z : PinContents). z.registers) h.rest) (ap (λ (z : PinContents). z.copies) h.rest) (ap (λ (z : PinContents). z.parts) h.rest) (h.cells (length p.copies) cells) (finish_walks_back log w p q h))
 
 -- nothing of the pin changes
 pub quiet_back : (left : Undo) (w : HeapState) (p : PinContents) → AreCells p.cells (length p.copies) → touched left ≡ None → ((m r old : ℕ) → left ≡ Reg m r old → ⊥) → ((at : ObjRef) (fresh : Bool) (m r old : ℕ) → left ≡ New at fresh m r old → ⊥) → (left ≡ Class → ⊥) → ((log : List ℕ) → left ≡ Finish log → ⊥)
@@ -215,8 +218,8 @@ quiet_back (Put at slot old) w p cells none a b c d = absurd (cc)
 quiet_back (Store at slot old logged) w p cells none a b c d = absurd (cc)
 quiet_back (Reclaim region storage) w p cells none a b c d = absurd (cc)
 quiet_back (Sweep region (x ∷ dead)) w p cells none a b c d = absurd (cc)
-quiet_back (Sweep region []) w p cells none a b c d = same_cells_walk_back (Sweep region []) w p p refl refl refl refl refl refl (λ f at. sweep_of_none_tells_states_now region f at) cells
-quiet_back left w p cells none a b c d = same_cells_walk_back left w p p none refl refl refl refl refl (λ f at. refl) cells
+quiet_back (Sweep region []) w p cells none a b c d = same_cells_walk_back (Sweep region []) w p p refl refl refl refl refl refl refl (λ f at. sweep_of_none_tells_states_now region f at) cells
+quiet_back left w p cells none a b c d = same_cells_walk_back left w p p none refl refl refl refl refl refl (λ f at. refl) cells
 
 -- what an Ok says more
 pub consequence_of_an_ok : {A E P Q : Type 0} (r : Result A E) → (P → Q) → OnOk r P → OnOk r Q
@@ -249,12 +252,14 @@ pin_walk_goes_one_back left e x w p q n past s b next h =
     let tells : TellsBefore left (undone left x) x = told_before left e x s in
     let now : ShowsState p x w = property_of_first_state (ShowsState p x) n w past h.shows in
     let itself : ShowsState p x x = property_of_nth_state (ShowsState p x) n x (w ∷ past) h.shows h.last in
+    let whole : IsWhole q = b.parts ∙ h.whole in
     record {
+      whole = whole;
       pin = pin_before left e x w p q s b h.pin;
       last = next;
       shows = subst (λ m. OfFirst (ShowsState q (undone left x)) m (w ∷ past)) one
-          (of_one_more (ShowsState p x) (ShowsState q (undone left x)) (λ v here. walk_shows_beside_later_state left x w v p q tells b.copies b.states now here) n (w ∷ past) h.shows
-          (λ u there. subst (ShowsState q (undone left x)) (equal_somes_are_equal (sym next ∙ ap (slice_get (w ∷ past)) (sym one) ∙ there)) (walk_shows_beside_itself left x w p q tells b.copies b.states now itself)));
+          (of_one_more (ShowsState p x) (ShowsState q (undone left x)) (λ v here. walk_shows_beside_later_state left x w v p q h.whole whole tells b.copies b.states now here) n (w ∷ past) h.shows
+          (λ u there. subst (ShowsState q (undone left x)) (equal_somes_are_equal (sym next ∙ ap (slice_get (w ∷ past)) (sym one) ∙ there)) (walk_shows_beside_itself left x w p q h.whole whole tells b.copies b.states now itself)));
     }
 
 -- ---- the end

@@ -70,7 +70,7 @@ changed_object_keeps_cell_states f keeps at regions b = go (place_or_not b at)
     go (inl e) = ap (cell_states_of_regions (with_object at f regions)) e ∙ ap cell_state (object_after_its_change at f regions) ∙ change_keeping_live_keeps_state f keeps (object_at regions at) ∙ ap (cell_states_of_regions regions) (sym e)
     go (inr ne) = ap cell_state (object_elsewhere at b f regions (λ q. ne (sym q)))
 
-word_state : (at : ObjRef) (slot old : ℕ) (regions : List Region) (b : ObjRef) → cell_states_of_regions (with_word at slot old regions) b ≡ cell_states_of_regions regions b
+pub word_state : (at : ObjRef) (slot old : ℕ) (regions : List Region) (b : ObjRef) → cell_states_of_regions (with_word at slot old regions) b ≡ cell_states_of_regions regions b
 unfolding with_word
 word_state at slot old = changed_object_keeps_cell_states (word_set slot old) (λ o. refl) at
 

@@ -10,13 +10,14 @@ use Rattle.heap_pins.specs.Covers.{Covers}
 use Rattle.heap_pins.specs.KeptCopies.{touched}
 use Rattle.heap_class.specs.declared.ObjRef.{ObjRef}
 use Rattle.heap_region.specs.Regions.{object_at}
-use Rattle.heap_pins.specs.Pin.{PinContents, cell_state, copy_or_now, region_seen, state_seen}
+use Rattle.heap_pins.specs.Pin.{PinContents, IsWhole, cell_state, copy_or_now, region_seen, state_seen}
 use Rattle.heap_pins.specs.Shows.{ShowsState, OfFirst}
 use Rattle.heap_pins.specs.Walk.{ShowsBack, TellsBefore, WalksFor, state_before, states_before}
 use Rattle.heap_pins.proofs.CellStates.{shown_state_is_shown_beside_itself}
 use Rattle.heap_pins.proofs.Classes.{record_extends, take_of_whole_list}
 use Rattle.heap_pins.proofs.CoveringCopies.{same_copy_covers, absent_copy_is_covered, copy_covers_through_another, covered_by_none_is_none}
 use Rattle.heap_pins.proofs.Others.{keeps_others, undoing_keeps_region_count}
+use Rattle.heap_pins.proofs.PartRegions.{whole_pin_sees}
 use Rattle.heap_pins.proofs.ShownStates.{option_or_not, first_classes}
 use Rattle.heap_pins.proofs.WalkSteps.{walked_copy_covers_state_before}
 
@@ -38,12 +39,11 @@ walked_states left x w s p q tells back now here at lt =
     ∙ sym (tells.states at)
 
 -- beside a state that came since, and the current one is such a state
-pub walk_shows_beside_later_state : (left : Undo) (x w s : HeapState) (p q : PinContents) → TellsBefore left (undone left x) x → WalksFor left w p q → ShowsBack left w p q → ShowsState p x w → ShowsState p x s → ShowsState q (undone left x) s
-unfolding region_seen
-walk_shows_beside_later_state left x w s p q tells k back now here = record {
+pub walk_shows_beside_later_state : (left : Undo) (x w s : HeapState) (p q : PinContents) → IsWhole p → IsWhole q → TellsBefore left (undone left x) x → WalksFor left w p q → ShowsBack left w p q → ShowsState p x w → ShowsState p x s → ShowsState q (undone left x) s
+walk_shows_beside_later_state left x w s p q whole still tells k back now here = record {
   count = here.count ∙ undoing_keeps_region_count left x;
   classes = first_classes (undone left x).classes x.classes s.classes (record_extends left x) here.classes;
-  objects = λ r. go r (option_or_not (touched left) r);
+  objects = λ r. subst (Covers (region_frozen (undone left x).regions r)) (sym (whole_pin_sees q s.regions r still)) (go r (option_or_not (touched left) r));
   states = walked_states left x w s p q tells back now here;
 }
   where
@@ -51,15 +51,14 @@ walk_shows_beside_later_state left x w s p q tells k back now here = record {
     go r (inl t) = subst (λ g. Covers (region_frozen (undone left x).regions r) (copy_or_now g (region_frozen s.regions r))) (sym (k.patched_region r t))
         (covering_copy_covers_beside_state _ _ _ (walked_copy_covers_state_before left x r (region_seen p w.regions r) t (now.objects r)))
     go r (inr t) = subst (λ g. Covers (region_frozen (undone left x).regions r) (copy_or_now g (region_frozen s.regions r))) (sym (k.others r t))
-        (copy_covers_through_another _ _ _ (keeps_others left x r t) (here.objects r))
+        (copy_covers_through_another _ _ _ (keeps_others left x r t) (subst (Covers (region_frozen x.regions r)) (whole_pin_sees p s.regions r whole) (here.objects r)))
 
 -- beside the state itself
-pub walk_shows_beside_itself : (left : Undo) (x w : HeapState) (p q : PinContents) → TellsBefore left (undone left x) x → WalksFor left w p q → ShowsBack left w p q → ShowsState p x w → ShowsState p x x → ShowsState q (undone left x) (undone left x)
-unfolding region_seen
-walk_shows_beside_itself left x w p q tells k back now here = record {
+pub walk_shows_beside_itself : (left : Undo) (x w : HeapState) (p q : PinContents) → IsWhole p → IsWhole q → TellsBefore left (undone left x) x → WalksFor left w p q → ShowsBack left w p q → ShowsState p x w → ShowsState p x x → ShowsState q (undone left x) (undone left x)
+walk_shows_beside_itself left x w p q whole still tells k back now here = record {
   count = refl;
   classes = take_of_whole_list (undone left x).classes;
-  objects = λ r. go r (option_or_not (touched left) r);
+  objects = λ r. subst (Covers (region_frozen (undone left x).regions r)) (sym (whole_pin_sees q (undone left x).regions r still)) (go r (option_or_not (touched left) r));
   states = λ at lt. shown_state_is_shown_beside_itself q w.regions (undone left x).regions at (walked_states left x w w p q tells back now now at lt);
 }
   where
@@ -71,7 +70,7 @@ walk_shows_beside_itself left x w p q tells k back now here = record {
     go r (inl t) = subst (λ g. Covers (region_frozen (undone left x).regions r) (copy_or_now g (region_frozen (undone left x).regions r))) (sym (k.patched_region r t))
         (covering_copy_covers_beside_state _ _ _ (walked_copy_covers_state_before left x r (region_seen p w.regions r) t (now.objects r)))
     go r (inr t) = subst (λ g. Covers (region_frozen (undone left x).regions r) (copy_or_now g (region_frozen (undone left x).regions r))) (sym (k.others r t))
-        (kept r (slice_index_or p.copies r None) (keeps_others left x r t) (here.objects r))
+        (kept r (slice_index_or p.copies r None) (keeps_others left x r t) (subst (Covers (region_frozen x.regions r)) (whole_pin_sees p x.regions r whole) (here.objects r)))
 
 -- of the first n + 1 states, and of the next
 pub of_one_more : (P Q : HeapState → Type 0) → ((s : HeapState) → P s → Q s) → (n : ℕ) (xs : List HeapState) → OfFirst P n xs → ((u : HeapState) → slice_get xs (suc n) ≡ Some u → Q u) → OfFirst Q (suc n) xs

@@ -16,10 +16,10 @@ use Rattle.heap_pins.proofs.CopiedRegions.{copy_covers}
 use Rattle.heap_pins.proofs.RecordCases.{by_patch, by_region, record_that_touches_no_region}
 
 -- what stands in a cell of both stands so after both are written there
-abbrev Stands : List (Option Object) → List (Option Object) → Type 0
+abbrev pub Stands : List (Option Object) → List (Option Object) → Type 0
 Stands fs gs = (c : ℕ) (o : Object) → slice_index_or fs c None ≡ Some o → (p : Object) × (slice_index_or gs c None ≡ Some p) × (p.kind ≡ o.kind) × (p.words ≡ o.words)
 
-cell_written_in_both_stands : (fs gs : List (Option Object)) (i : ℕ) (x y : Option Object) → length gs ≡ length fs → Stands fs gs → ((o : Object) → x ≡ Some o → (p : Object) × (y ≡ Some p) × (p.kind ≡ o.kind) × (p.words ≡ o.words)) → Stands (set fs i x) (set gs i y)
+pub cell_written_in_both_stands : (fs gs : List (Option Object)) (i : ℕ) (x y : Option Object) → length gs ≡ length fs → Stands fs gs → ((o : Object) → x ≡ Some o → (p : Object) × (y ≡ Some p) × (p.kind ≡ o.kind) × (p.words ≡ o.words)) → Stands (set fs i x) (set gs i y)
 cell_written_in_both_stands [] gs i x y same h at c o e = absurd (clash e)
   where
     clash : None ≡ Some o → ⊥

@@ -74,6 +74,30 @@ kept_if None left v p = p
 kept_if (Some r) left v p =
     kept_at r (copy_for left v r) (states_before_step left v r p) (has_copy r p) p
 
+-- ---- taken cells
+
+-- the bytes of a region with this byte for a cell, or for all cells if the region was taken from the pool (the flag)
+unfoldable pub bytes_with : ℕ → Bool → ℕ → List ℕ → List ℕ
+bytes_with cell true byte bytes = replicate 256 byte
+bytes_with cell false byte bytes = slice_set bytes cell byte
+
+-- the pin with this byte for the cell, or for all cells of its region
+abbrev pub with_byte : ObjRef → Bool → ℕ → PinContents → PinContents
+with_byte at fresh byte p =
+    record p {
+      cells = slice_set p.cells at.region
+          (bytes_with at.cell fresh byte (slice_index_or p.cells at.region []));
+    }
+
+-- ---- a step
+
+-- the pin after the step that left this record and the state v, if it keeps each overwritten word by a copy of its region
+unfoldable pub kept_by_copy : Undo → HeapState → PinContents → PinContents
+kept_by_copy (New at fresh m r old) v p =
+    if has_copy at.region p then p else with_byte at fresh 1 p
+kept_by_copy (Finish log) v p = record p { ended = true }
+kept_by_copy left v p = kept_if (touched left) left v p
+
 -- ---- parts
 
 -- a word that a step overwrote: its place, its slot, and what it was
@@ -81,6 +105,12 @@ pub record Overwritten : Type 0 where
   pub at : ObjRef
   pub slot : ℕ
   pub old : ℕ
+
+-- the word that a step with this record overwrote, if it overwrote one
+unfoldable pub written : Undo → Option Overwritten
+written (Put at slot old) = Some (record { at = at; slot = slot; old = old })
+written (Store at slot old logged) = Some (record { at = at; slot = slot; old = old })
+written left = None
 
 -- the words of the object at this place
 abbrev pub words_in : HeapState → ObjRef → List ℕ
@@ -101,38 +131,19 @@ unfoldable pub kept_part : Option (List ℕ) → Overwritten → Undo → HeapSt
 kept_part None o left v p =
     with_part o.at.region (o.slot / 1024) (part_before o.slot o.old (words_in v o.at)) p
 kept_part (Some ws) o left v p =
-    if nat_lt (o.slot % 1024) (length ws) then p else kept_if (touched left) left v p
+    if nat_lt (o.slot % 1024) (length ws) then p else kept_by_copy left v p
 
 -- the pin with what it keeps of an overwritten word, by its part (the flag), or else a copy of the region
 unfoldable pub kept_word : Bool → Overwritten → Undo → HeapState → PinContents → PinContents
 kept_word true o left v p = kept_part (part_at p.parts o.at.region (o.slot / 1024)) o left v p
-kept_word false o left v p = kept_if (touched left) left v p
+kept_word false o left v p = kept_by_copy left v p
 
--- ---- taken cells
-
--- the bytes of a region with this byte for a cell, or for all cells if the region was taken from the pool (the flag)
-unfoldable pub bytes_with : ℕ → Bool → ℕ → List ℕ → List ℕ
-bytes_with cell true byte bytes = replicate 256 byte
-bytes_with cell false byte bytes = slice_set bytes cell byte
-
--- the pin with this byte for the cell, or for all cells of its region
-abbrev pub with_byte : ObjRef → Bool → ℕ → PinContents → PinContents
-with_byte at fresh byte p =
-    record p {
-      cells = slice_set p.cells at.region
-          (bytes_with at.cell fresh byte (slice_index_or p.cells at.region []));
-    }
-
--- ---- a step
-
--- the pin after the step that left this record and the state v
+-- the pin after the step that left this record and the state v: a word of a large object is kept by its part
 unfoldable pub kept : Undo → HeapState → PinContents → PinContents
-kept (New at fresh m r old) v p = if has_copy at.region p then p else with_byte at fresh 1 p
-kept (Finish log) v p = record p { ended = true }
 kept (Put at slot old) v p =
     kept_word (goes_by_part v p at) (record { at = at; slot = slot; old = old }) (Put at slot old) v
     p
 kept (Store at slot old logged) v p =
     kept_word (goes_by_part v p at) (record { at = at; slot = slot; old = old })
     (Store at slot old logged) v p
-kept left v p = kept_if (touched left) left v p
+kept left v p = kept_by_copy left v p

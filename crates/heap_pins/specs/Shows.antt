@@ -57,6 +57,7 @@ pub record KeepsFor (left : Undo) (v : HeapState) (p q : PinContents) : Type 0 w
   pub classes : q.classes ≡ p.classes
   pub registers : q.registers ≡ p.registers
   pub as_many : length q.copies ≡ length p.copies
+  pub parts : q.parts ≡ p.parts
   pub cells : AreCells q.cells (length p.copies)
   pub each : (r : ℕ) → KeepsRegion p q (undone left v) r
   pub done : (r : ℕ) → touched left ≡ Some r → slice_index_or q.copies r None ≡ None

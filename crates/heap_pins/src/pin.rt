@@ -1,5 +1,5 @@
 //! A pin: a past state as a dump needs it, kept beside the heap that goes on.
-ghost use Rattle.std.specs.Prelude.{◌≡◌, ◌<◌, [], length, None, Some, IsSome, IfOk, IfErr, OnOk, OnErr, slice_index_or, slice_set, replicate, is_some, if◌then◌else◌};
+ghost use Rattle.std.specs.Prelude.{◌≡◌, ◌<◌, ◌/◌, [], length, None, Some, IsSome, IfOk, IfErr, OnOk, OnErr, slice_index_or, slice_set, replicate, is_some, if◌then◌else◌};
 ghost use Rattle.heap_class.specs.declared.Refusal.TheVariants.{NoMemory};
 ghost use Rattle.heap_region.specs.Limits.{cell_limit};
 ghost use Rattle.heap_region.specs.Regions.{object_at};
@@ -10,7 +10,7 @@ ghost use Rattle.heap_step.specs.Laws.{IsStep};
 ghost use Rattle.heap_pins.specs.Parts.{part_at, part_before};
 ghost use Rattle.heap_pins.specs.Pin.{state_seen};
 ghost use Rattle.heap_pins.specs.KeptCopies.{ends_cycle, has_copy, kept, noted, touched, with_byte};
-ghost use Rattle.heap_pins.specs.KeptCopies.{Overwritten, goes_by_part, kept_if, kept_word, with_part, words_in};
+ghost use Rattle.heap_pins.specs.KeptCopies.{goes_by_part, kept_by_copy, with_part, words_in, written};
 ghost use Rattle.heap_pins.specs.SharedCopies.{SharesBefore};
 ghost use Rattle.heap_pins.specs.States.{AreOf, AreSettled};
 ghost use Rattle.heap_pins.specs.WalkedPins.{IsFreshPin};
@@ -237,21 +237,43 @@ impl Pin {
     {
         match left {
             Undo::Put { at, slot, old } | Undo::Store { at, slot, old, .. } => {
-                if self.goes_by_part(world, *at) {
-                    let part = *slot as u64 / 1024;
-                    match self.parts.part(at.region as u64, part) {
-                        None => return self.add_part(world, *at, *slot as u64, *old),
-                        Some(words) => {
-                            if *slot as usize % 1024 < words.len() {
-                                return Ok(());
-                            }
-                        }
-                    }
-                }
-                self.keep_copy(world, left, region, shared)
+                self.keep_word(world, left, *at, *slot as u64, *old, shared)
             }
             _ => self.keep_copy(world, left, region, shared),
         }
+    }
+
+    // Keeps what `keep` does of the word that the step overwrote.
+    fn keep_word(
+        &mut self,
+        world: &World,
+        left: &Undo,
+        at: ObjRef,
+        slot: u64,
+        old: u64,
+        shared: &mut Option<RegionCopy>,
+    ) -> Result<(), Refusal>
+        requires written { written left.now
+            ≡ Some (record { at = at; slot = slot; old = old }) }
+        requires step { (e : Event) × (before : HeapState) × IsStep e before world.now left.now }
+        requires sized { length self.old.copies ≡ length world.now.regions }
+        requires shared { SharesBefore left.now world.now shared.old }
+        ensures kept { OnOk result (self.new ≡ kept left.now world.now self.old) }
+        ensures unchanged { OnErr result (self.new ≡ self.old) }
+        ensures refused { IfErr result (λ e. e ≡ NoMemory) }
+        ensures shared { SharesBefore left.now world.now shared.new }
+    {
+        if self.goes_by_part(world, at) {
+            match self.parts.part(at.region as u64, slot / 1024) {
+                None => return self.add_part(world, at, slot, old),
+                Some(words) => {
+                    if slot % 1024 < words.len() as u64 {
+                        return Ok(());
+                    }
+                }
+            }
+        }
+        self.keep_copy(world, left, at.region as u64, shared)
     }
 
     // Tells whether the pin keeps a word of the object at this place by its part.
@@ -296,7 +318,7 @@ impl Pin {
         requires sized { length self.old.copies ≡ length world.now.regions }
         requires shared { SharesBefore left.now world.now shared.old }
         ensures kept { OnOk result
-            (self.new ≡ kept_if (Some region) left.now world.now self.old) }
+            (self.new ≡ kept_by_copy left.now world.now self.old) }
         ensures unchanged { OnErr result (self.new ≡ self.old) }
         ensures refused { IfErr result (λ e. e ≡ NoMemory) }
         ensures shared { SharesBefore left.now world.now shared.new }

@@ -4,7 +4,7 @@ ghost use Rattle.memchr.specs.Find.{IsFirstByte, is_byte};
 ghost use Rattle.heap_region.specs.Limits.{cell_limit, region_limit, region_words};
 ghost use Rattle.heap_region.specs.RegionCopies.{frozen_object};
 ghost use Rattle.heap_region.specs.Regions.{object_base};
-ghost use Rattle.heap_pins.specs.Pin.{IsPlaceAfter, byte_in, cell_dumped, object_seen, places_seen, state_seen, states_seen};
+ghost use Rattle.heap_pins.specs.Pin.{IsPlaceAfter, IsWhole, byte_in, cell_dumped, object_seen, places_seen, state_seen, states_seen};
 ghost use Rattle.heap_pins.specs.Shows.{IsSeen};
 ghost use Rattle.heap_pins.specs.States.{IsFirstIn, IsFirstPlace, IsShownIf, state_by, state_in_storage};
 
@@ -162,7 +162,8 @@ impl Pin {
 
     /// Returns the kind of the object at this place, which must have one.
     pub fn kind(&self, world: &World, at: ObjRef) -> ObjKind
-        requires { IsSeen self.now world.now.regions at }
+        requires seen { IsSeen self.now world.now.regions at }
+        requires whole { IsWhole self.now }
         ensures { IfSome (object_seen self.now world.now.regions at) (λ o. result ≡ o.kind) }
     {
         match self.copy_of(at.region) {
@@ -173,7 +174,8 @@ impl Pin {
 
     /// Returns the id of the object at this place, which must have one: the address of its first word.
     pub fn id(&self, world: &World, at: ObjRef) -> u64
-        requires { IsSeen self.now world.now.regions at }
+        requires seen { IsSeen self.now world.now.regions at }
+        requires whole { IsWhole self.now }
         ensures { IfSome (object_seen self.now world.now.regions at) (λ o. result ≡ o.id) }
     {
         match self.copy_of(at.region) {
@@ -185,7 +187,8 @@ impl Pin {
     /// Returns the words of the object at this place, which must have one, in slot order.
     #[inline(always)]
     pub fn words<'b>(&'b self, world: &'b World, at: ObjRef) -> &'b [u64]
-        requires { IsSeen self.now world.now.regions at }
+        requires seen { IsSeen self.now world.now.regions at }
+        requires whole { IsWhole self.now }
         ensures { IfSome (object_seen self.now world.now.regions at) (λ o. result.now ≡ o.words) }
     {
         match self.copy_of(at.region) {
@@ -197,7 +200,8 @@ impl Pin {
     /// Returns the object at this place, which must have one.
     #[inline(always)]
     pub fn object<'b>(&'b self, world: &'b World, at: ObjRef) -> ShownObject<'b>
-        requires { IsSeen self.now world.now.regions at }
+        requires seen { IsSeen self.now world.now.regions at }
+        requires whole { IsWhole self.now }
         ensures { IfSome (object_seen self.now world.now.regions at) (λ o. result ≡ o) }
     {
         match self.copy_of(at.region) {

@@ -2,11 +2,11 @@ use Rattle.std.proofs.Common.{◌∙◌, IsSome, sym, subst}
 use Rattle.heap_pins.proofs.AddedCopies.{truth_holds_at_refusal}
 use Rattle.heap_pins.proofs.pin.Pin.keep.Goals as goal
 
-pub keep_copy-requires-clause-touched : goal.keep_copy-requires-clause-touched
-keep_copy-requires-clause-touched c = sym c.touched_region.ensures ∙ c.in-Some.is
+pub keep_touched-requires-clause-touched : goal.keep_touched-requires-clause-touched
+keep_touched-requires-clause-touched c = sym c.touched_region.ensures ∙ c.in-Some.is
 
 pub returns-in-Some-clause-touched : goal.returns-in-Some-clause-touched
-returns-in-Some-clause-touched c = truth_holds_at_refusal c.keep_copy.result (subst IsSome (sym (sym c.touched_region.ensures ∙ c.in-Some.is)) (search))
+returns-in-Some-clause-touched c = truth_holds_at_refusal c.keep_touched.result (subst IsSome (sym (sym c.touched_region.ensures ∙ c.in-Some.is)) (search))
 
 pub note-requires : goal.note-requires
 note-requires c = record {

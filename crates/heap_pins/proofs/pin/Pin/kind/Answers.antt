@@ -5,15 +5,15 @@ use Rattle.heap_pins.proofs.ObjectReads.{copy_has, region_has, copy_reads, regio
 use Rattle.heap_pins.proofs.pin.Pin.kind.Goals as goal
 
 pub kind-requires : goal.kind-requires
-kind-requires c = copy_has c.args.self.now c.args.world.now.regions c.args.at c.in-Some.copy.now c.requires c.in-Some.ensures
+kind-requires c = copy_has c.args.self.now c.args.world.now.regions c.args.at c.in-Some.copy.now c.requires.whole c.requires.seen c.in-Some.ensures
 
 pub kind-requires-in-None : goal.kind-requires-in-None
-kind-requires-in-None c = subst (λ (s : RegionPool). IsSome (object_at s.regions c.args.at)) (sym c.regions.ensures) (region_has c.args.self.now c.args.world.now.regions c.args.at c.requires c.in-None.ensures)
+kind-requires-in-None c = subst (λ (s : RegionPool). IsSome (object_at s.regions c.args.at)) (sym c.regions.ensures) (region_has c.args.self.now c.args.world.now.regions c.args.at c.requires.whole c.requires.seen c.in-None.ensures)
 
 pub returns-in-Some : goal.returns-in-Some
-returns-in-Some c = copy_reads c.args.self.now c.args.world.now.regions c.args.at c.in-Some.copy.now (λ o. c.kind.result ≡ o.kind) (λ o. c.kind.result ≡ o.kind) (λ o x q. q) c.in-Some.ensures c.kind.ensures
+returns-in-Some c = copy_reads c.args.self.now c.args.world.now.regions c.args.at c.in-Some.copy.now (λ o. c.kind.result ≡ o.kind) (λ o. c.kind.result ≡ o.kind) (λ o x q. q) c.requires.whole c.in-Some.ensures c.kind.ensures
 
 pub returns-in-None : goal.returns-in-None
 returns-in-None c =
-    region_reads c.args.self.now c.args.world.now.regions c.args.at (λ o. c.kind-in-None.result ≡ o.kind) (λ o. c.kind-in-None.result ≡ o.kind) (λ o x q. q) c.requires c.in-None.ensures
+    region_reads c.args.self.now c.args.world.now.regions c.args.at (λ o. c.kind-in-None.result ≡ o.kind) (λ o. c.kind-in-None.result ≡ o.kind) (λ o x q. q) c.requires.whole c.requires.seen c.in-None.ensures
     (subst (λ (s : RegionPool). IfSome (object_at s.regions c.args.at) (λ o. c.kind-in-None.result ≡ o.kind)) c.regions.ensures c.kind-in-None.ensures)

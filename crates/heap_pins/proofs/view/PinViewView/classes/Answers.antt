@@ -13,7 +13,7 @@ returns-clause-value c =
     ∙ ap (λ (v : PinShown). take v.pin.classes v.state.classes) c.self.view_is
 
 pub returns-clause-limits : goal.returns-clause-limits
-returns-clause-limits c = view_dumpable c.args.self.now.pin c.args.self.now.state (subst (λ (v : PinShown). ShowsSome v.pin v.state) c.self.view_is c.self.invariant)
+returns-clause-limits c = view_dumpable c.args.self.now.pin c.args.self.now.state (subst (λ (v : PinShown). ShowsSome v.pin v.state) c.self.view_is c.self.invariant.0)
 
 pub returns-clause-placed : goal.returns-clause-placed
-returns-clause-placed c = view_placed c.args.self.now.pin c.args.self.now.state (subst (λ (v : PinShown). ShowsSome v.pin v.state) c.self.view_is c.self.invariant)
+returns-clause-placed c = view_placed c.args.self.now.pin c.args.self.now.state (subst (λ (v : PinShown). ShowsSome v.pin v.state) c.self.view_is c.self.invariant.0)

@@ -2,8 +2,8 @@ use Rattle.std.proofs.Common.{◌≡◌}
 use Rattle.heap_pins.proofs.PinViews.{live_place_of_pin_is_seen, property_of_pin_image_object}
 use Rattle.heap_pins.proofs.view.PinViewView.id.Goals as goal
 
-pub id-requires : goal.id-requires
-id-requires c = live_place_of_pin_is_seen _ c.args.self.now c.args.at c.self.view_is c.self.invariant c.requires
+pub id-requires-clause-seen : goal.id-requires-clause-seen
+id-requires-clause-seen c = live_place_of_pin_is_seen _ c.args.self.now c.args.at c.self.view_is c.self.invariant.0 c.requires
 
 pub returns : goal.returns
-returns c = property_of_pin_image_object _ c.args.self.now c.args.at (λ o. c.id.result ≡ o.id) c.self.view_is c.self.invariant c.id.ensures
+returns c = property_of_pin_image_object _ c.args.self.now c.args.at (λ o. c.id.result ≡ o.id) c.self.view_is c.self.invariant.0 c.id.ensures

@@ -2,8 +2,8 @@ use Rattle.std.proofs.Common.{◌≡◌}
 use Rattle.heap_pins.proofs.PinViews.{live_place_of_pin_is_seen, property_of_pin_image_object}
 use Rattle.heap_pins.proofs.view.PinViewView.object.Goals as goal
 
-pub object-requires : goal.object-requires
-object-requires c = live_place_of_pin_is_seen _ c.args.self.now c.args.at c.self.view_is c.self.invariant c.requires
+pub object-requires-clause-seen : goal.object-requires-clause-seen
+object-requires-clause-seen c = live_place_of_pin_is_seen _ c.args.self.now c.args.at c.self.view_is c.self.invariant.0 c.requires
 
 pub returns : goal.returns
-returns c = property_of_pin_image_object _ c.args.self.now c.args.at (λ o. c.object.result ≡ o) c.self.view_is c.self.invariant c.object.ensures
+returns c = property_of_pin_image_object _ c.args.self.now c.args.at (λ o. c.object.result ≡ o) c.self.view_is c.self.invariant.0 c.object.ensures

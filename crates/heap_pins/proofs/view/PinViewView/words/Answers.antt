@@ -2,8 +2,8 @@ use Rattle.std.proofs.Common.{◌≡◌}
 use Rattle.heap_pins.proofs.PinViews.{live_place_of_pin_is_seen, property_of_pin_image_object}
 use Rattle.heap_pins.proofs.view.PinViewView.words.Goals as goal
 
-pub words-requires : goal.words-requires
-words-requires c = live_place_of_pin_is_seen _ c.args.self.now c.args.at c.self.view_is c.self.invariant c.requires
+pub words-requires-clause-seen : goal.words-requires-clause-seen
+words-requires-clause-seen c = live_place_of_pin_is_seen _ c.args.self.now c.args.at c.self.view_is c.self.invariant.0 c.requires
 
 pub returns : goal.returns
-returns c = property_of_pin_image_object _ c.args.self.now c.args.at (λ o. c.words.result.now ≡ o.words) c.self.view_is c.self.invariant c.words.ensures
+returns c = property_of_pin_image_object _ c.args.self.now c.args.at (λ o. c.words.result.now ≡ o.words) c.self.view_is c.self.invariant.0 c.words.ensures

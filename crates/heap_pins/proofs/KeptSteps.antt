@@ -91,6 +91,12 @@ no_word_is_kept_so (Put at slot old) v p e = absurd (cc)
 no_word_is_kept_so (Store at slot old logged) v p e = absurd (cc)
 no_word_is_kept_so left v p e = refl
 
+pub record_without_word : (left : Undo) → ((at : ObjRef) (slot old : ℕ) → left ≡ Put at slot old → ⊥) → ((at : ObjRef) (slot old : ℕ) (logged : Bool) → left ≡ Store at slot old logged → ⊥) → written left ≡ None
+unfolding written
+record_without_word (Put at slot old) a b = absurd (a at slot old refl)
+record_without_word (Store at slot old logged) a b = absurd (b at slot old logged refl)
+record_without_word left a b = refl
+
 -- by a copy
 pub word_by_copy_is_kept : (left : Undo) (v : HeapState) (p : PinContents) (o : Overwritten) → written left ≡ Some o → goes_by_part v p o.at ≡ false → kept_by_copy left v p ≡ kept left v p
 unfolding kept_word

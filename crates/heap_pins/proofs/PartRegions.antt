@@ -16,6 +16,9 @@ use Rattle.heap_pins.proofs.WalkSteps.{cell_written_in_both_stands}
 no_frozen_is_some : {f : Frozen} → None ≡ Some f → ⊥
 no_frozen_is_some e = cc
 
+equal_copies : {f g : Frozen} → Some f ≡ Some g → f ≡ g
+equal_copies e = cc
+
 no_object_is_some : {o : Object} → None ≡ Some o → ⊥
 no_object_is_some e = cc
 
@@ -119,7 +122,7 @@ pub changed_parts_cover : (a b : Option Frozen) (es fs : List Part) (r : ℕ) �
 changed_parts_cover a None es fs r alike h u e = absurd (no_frozen_is_some (h u e).1)
 changed_parts_cover a (Some f) es fs r alike h u e =
     let c = h u e in
-    let s : c.0 ≡ frozen_shown es r f = cc in
+    let s : c.0 ≡ frozen_shown es r f = sym (equal_copies c.1) in
     (frozen_shown fs r f, refl, changed_parts_show u f es fs r (alike u f e refl) (subst (HasAll u) s c.2))
 
 -- ---- a word that is overwritten
@@ -143,10 +146,10 @@ pub words_with_old_word_are_shown : (a b : Option Frozen) (es : List Part) (r sl
 words_with_old_word_are_shown a None es r slot old u w h e there = absurd (no_frozen_is_some (h u e).1)
 words_with_old_word_are_shown a (Some f) es r slot old u w h e there =
     let c = h u e in
-    let s : c.0 ≡ frozen_shown es r (frozen_word_set 0 slot old f) = cc in
+    let s : c.0 ≡ frozen_shown es r (frozen_word_set 0 slot old f) = sym (equal_copies c.1) in
     let p = c.2.objects 0 w there in
     go (frozen_object f 0) refl p.0
-    (ap (option_map (object_shown es r)) (sym (first_cell_written slot old f)) ∙ sym (first_cell_shown es r (frozen_word_set 0 slot old f)) ∙ ap (λ g. frozen_object g 0) (sym s) ∙ p.1) ∙ p.3
+    (ap (option_map (object_shown es r)) (sym (first_cell_written slot old f)) ∙ sym (first_cell_shown es r (frozen_word_set 0 slot old f)) ∙ ap (λ (g : Frozen). frozen_object g 0) (sym s) ∙ p.1) ∙ p.3
   where
     go : (x : Option Object) → frozen_object f 0 ≡ x → (p : Object) → option_map (object_shown es r) (option_map (word_set slot old) (frozen_object f 0)) ≡ Some p → words_shown es r 0 (slice_set (words_of (frozen_object f 0)) slot old) ≡ p.words
     go None is p there = absurd (no_object_is_some (ap (λ x. option_map (object_shown es r) (option_map (word_set slot old) x)) (sym is) ∙ there))

@@ -59,9 +59,9 @@ by_copies left v p q u is i shows =
 -- ---- by parts
 
 -- what a record says of the word that its step overwrote in the first cell of a region
-record IsWordStep (left : Undo) (v : HeapState) (o : Overwritten) : Type 0 where
-  regions : (undone left v).regions ≡ with_word o.at o.slot o.old v.regions
-  region : touched left ≡ Some o.at.region
+pub record IsWordStep (left : Undo) (v : HeapState) (o : Overwritten) : Type 0 where
+  pub regions : (undone left v).regions ≡ with_word o.at o.slot o.old v.regions
+  pub region : touched left ≡ Some o.at.region
 
 word_step_is : (left : Undo) (v : HeapState) (o : Overwritten) → written left ≡ Some o → IsWordStep left v o
 unfolding written touched undone
@@ -120,10 +120,10 @@ module _ (left : Undo) (v : HeapState) (o : Overwritten) (s : IsWordStep left v 
 
   -- a part is added
   module _ (p : PinContents) (u : HeapState) (none : slice_index_or p.copies o.at.region None ≡ None) (new : part_at p.parts o.at.region (o.slot / 1024) ≡ None) (before : ShowsState p u (undone left v)) where
-    part : List ℕ
+    abbrev part : List ℕ
     part = part_before o.slot o.old (words_in v o.at)
 
-    parts : List Part
+    abbrev parts : List Part
     parts = p.parts ++ ((o.at.region, o.slot / 1024), part) ∷ []
 
     -- it shows the words of u
@@ -177,7 +177,7 @@ goes_by_part_tells true false c e = cc
 goes_by_part_tells false b c e = cc
 
 word_goes_on : (left : Undo) (v : HeapState) (p : PinContents) (u : HeapState) (o : Overwritten) (b : Bool) → written left ≡ Some o → goes_by_part v p o.at ≡ b → IsPinOf p u → ShowsState p u (undone left v) → GoesOn v p (kept_word b o left v p) u
-unfolding kept_word
+unfolding kept_word kept_part
 word_goes_on left v p u o false is by i shows = by_copies left v p (kept_by_copy left v p) u refl i shows
 word_goes_on left v p u o true is by i shows = go (part_at p.parts o.at.region (o.slot / 1024)) refl
   where
@@ -194,7 +194,6 @@ word_goes_on left v p u o true is by i shows = go (part_at p.parts o.at.region (
     step = word_step_is left v o is
 
     go : (x : Option (List ℕ)) → part_at p.parts o.at.region (o.slot / 1024) ≡ x → GoesOn v p (kept_part x o left v p) u
-    unfolding kept_part
     go None e = part_goes_on left v o step first p u none e shows
     go (Some ws) e = reach (nat_lt (o.slot % 1024) (length ws)) refl
       where

@@ -1,11 +1,12 @@
 -- Words under the parts that a pin has of them.
-use Rattle.std.proofs.Common.{◌≡◌, ◌≢◌, ◌⊎◌, ℕ, zero, suc, ◌+◌, ◌*◌, ◌/◌, ◌%◌, ◌<◌, ◌≤◌, Bool, true, false, ◌&&◌, cond, List, [], ◌∷◌, ◌++◌, length, length-set, length-take, length-drop, take, drop, set, get_or, Option, Some, None, refl, sym, ap, subst, ◌∙◌, arith}
+use Rattle.std.proofs.Common.{◌≡◌, ◌≢◌, ◌⊎◌, ℕ, zero, suc, ◌+◌, ◌-◌, ◌*◌, ◌/◌, ◌%◌, ◌<◌, ◌≤◌, Bool, true, false, ◌&&◌, cond, List, [], ◌∷◌, ◌++◌, length, length-set, length-take, length-drop, take, drop, min, set, get_or, Option, Some, None, refl, sym, ap, subst, ◌∙◌, arith}
 use mathlib.Core.Logic.{inl, inr}
 use Rattle.std.specs.Prelude.{◌==◌, slice_index_or}
 use Rattle.std.specs.Option.{option_map_or}
 use Rattle.std.proofs.lemmas.Bool.{eq-eqb, ne_eqb}
 use Rattle.std.proofs.lemmas.Grind.{get_or_default_zero}
-use Rattle.std.proofs.lemmas.List.{ext_get_or, get_or-drop, get_or-set_other, get_or-take}
+use Rattle.std.proofs.lemmas.List.{drop-set-add, ext_get_or, get_or-drop, get_or-set_other, get_or-take, take_min}
+use Rattle.heap_region.proofs.CellChanges.{take_of_set}
 use Rattle.heap_region.proofs.ChangedLookups.{same_or_not}
 use Rattle.heap_pins.specs.Parts.{Part, part_at, part_before, same_part, word_shown, words_shown}
 
@@ -105,6 +106,19 @@ word_of_part_before slot old vs j d same =
     get_or-take 1024 (drop (1024 * (slot / 1024)) (set vs slot old)) (j % 1024) d (omega arith)
     ∙ get_or-drop (1024 * (slot / 1024)) (set vs slot old) (j % 1024) d
     ∙ ap (λ n. get_or (set vs slot old) n d) (let z : 1024 * (slot / 1024) + j % 1024 ≡ j = omega (arith, same) in z)
+
+-- cut out of the words, with the old word put in
+pub part_is_cut : (slot old start end : ℕ) (ws : List ℕ) → start ≡ 1024 * (slot / 1024) → end ≡ min (length ws) (start + 1024) → set (take (end - start) (drop start ws)) (slot % 1024) old ≡ part_before slot old ws
+unfolding part_before
+part_is_cut slot old start end ws s e =
+    let n : ℕ = 1024 * (slot / 1024) in
+    let few : end - start ≡ min 1024 (length (drop start ws)) = omega (arith, e, length-drop start ws) in
+    let place : n + slot % 1024 ≡ slot = omega arith in
+    ap (λ m. set (take m (drop start ws)) (slot % 1024) old) few
+    ∙ ap (λ xs. set xs (slot % 1024) old) (take_min 1024 (drop start ws))
+    ∙ ap (λ m. set (take 1024 (drop m ws)) (slot % 1024) old) s
+    ∙ sym (take_of_set 1024 (drop n ws) (slot % 1024) old)
+    ∙ ap (take 1024) (sym (drop-set-add n ws (slot % 1024) old) ∙ ap (λ m. drop n (set ws m old)) place)
 
 pub part_before_reaches_slot : (slot old : ℕ) (vs : List ℕ) → slot < length vs → slot % 1024 < length (part_before slot old vs)
 unfolding part_before

@@ -219,6 +219,7 @@ impl Pin {
     }
 
     // Keeps of the region that the step touched what `keep` does.
+    #[tactic(auto, unfolding(crate::specs::KeptCopies::written))]
     fn keep_touched(
         &mut self,
         world: &World,
@@ -236,7 +237,10 @@ impl Pin {
         ensures shared { SharesBefore left.now world.now shared.new }
     {
         match left {
-            Undo::Put { at, slot, old } | Undo::Store { at, slot, old, .. } => {
+            Undo::Put { at, slot, old } => {
+                self.keep_word(world, left, *at, *slot as u64, *old, shared)
+            }
+            Undo::Store { at, slot, old, .. } => {
                 self.keep_word(world, left, *at, *slot as u64, *old, shared)
             }
             _ => self.keep_copy(world, left, region, shared),
@@ -263,17 +267,19 @@ impl Pin {
         ensures refused { IfErr result (λ e. e ≡ NoMemory) }
         ensures shared { SharesBefore left.now world.now shared.new }
     {
-        if self.goes_by_part(world, at) {
-            match self.parts.part(at.region as u64, slot / 1024) {
-                None => return self.add_part(world, at, slot, old),
-                Some(words) => {
-                    if slot % 1024 < words.len() as u64 {
-                        return Ok(());
-                    }
+        if !self.goes_by_part(world, at) {
+            return self.keep_copy(world, left, at.region as u64, shared);
+        }
+        match self.parts.part(at.region as u64, slot / 1024) {
+            None => self.add_part(world, at, slot, old),
+            Some(words) => {
+                let reaches = slot % 1024 < words.len() as u64;
+                if reaches {
+                    return Ok(());
                 }
+                self.keep_copy(world, left, at.region as u64, shared)
             }
         }
-        self.keep_copy(world, left, at.region as u64, shared)
     }
 
     // Tells whether the pin keeps a word of the object at this place by its part.

@@ -1,6 +1,6 @@
 -- What a pin makes of a step is what it has to keep of it.
-use Rattle.std.proofs.Common.{◌≡◌, ◌≢◌, ℕ, ◌/◌, ◌%◌, ◌<◌, Bool, true, false, List, [], ◌∷◌, length, Option, Some, None, IsSome, IfSome, refl, sym, ap, subst, ◌∙◌, arith}
-use Rattle.std.specs.Prelude.{nat_lt, slice_index_or, if◌then◌else◌}
+use Rattle.std.proofs.Common.{◌≡◌, ◌≢◌, ℕ, ◌/◌, ◌%◌, ◌<◌, Bool, true, false, not, ◌&&◌, List, [], ◌∷◌, length, Option, Some, None, IsSome, IfSome, refl, sym, ap, subst, ◌∙◌, arith}
+use Rattle.std.specs.Prelude.{◌==◌, nat_lt, slice_index_or, if◌then◌else◌}
 use Rattle.heap_class.specs.declared.ObjRef.{ObjRef}
 use Rattle.heap_region.specs.Regions.{Object, object_at}
 use Rattle.heap_region.specs.Layout.{words_of}
@@ -100,19 +100,43 @@ record_without_word left a b = refl
 -- by a copy
 pub word_by_copy_is_kept : (left : Undo) (v : HeapState) (p : PinContents) (o : Overwritten) → written left ≡ Some o → goes_by_part v p o.at ≡ false → kept_by_copy left v p ≡ kept left v p
 unfolding kept_word
-word_by_copy_is_kept left v p o e no = sym (word_is_kept_so left v p o e ∙ ap (λ b. kept_word b o left v p) no)
+word_by_copy_is_kept left v p o e copied = sym (word_is_kept_so left v p o e ∙ ap (λ b. kept_word b o left v p) copied)
+
+-- a pin with a copy of the region goes by it
+written_word_is_in_touched_region : (left : Undo) (o : Overwritten) → written left ≡ Some o → touched left ≡ Some o.at.region
+unfolding written touched
+written_word_is_in_touched_region (Put at slot old) o e = ap (λ (x : Overwritten). Some x.at.region) (equal_words e)
+written_word_is_in_touched_region (Store at slot old logged) o e = ap (λ (x : Overwritten). Some x.at.region) (equal_words e)
+written_word_is_in_touched_region left o e = absurd (cc)
+
+nothing_and_false_is_false : (a : Bool) → (a && false) ≡ false
+nothing_and_false_is_false true = refl
+nothing_and_false_is_false false = refl
+
+pub settled_step_goes_by_copy : (left : Undo) (v : HeapState) (p : PinContents) (r : ℕ) → touched left ≡ Some r → has_copy r p ≡ true → kept_by_copy left v p ≡ kept left v p
+settled_step_goes_by_copy left v p r t some = go (written left) refl
+  where
+    equal_regions : {a b : ℕ} → Some a ≡ Some b → a ≡ b
+    equal_regions e = cc
+
+    go : (x : Option Overwritten) → written left ≡ x → kept_by_copy left v p ≡ kept left v p
+    go None e = sym (no_word_is_kept_so left v p e)
+    go (Some o) e =
+        let same : o.at.region ≡ r = equal_regions (sym (written_word_is_in_touched_region left o e) ∙ t) in
+        let by : Bool = (o.at.cell == 0) && nat_lt 1024 (length (words_in v o.at)) in
+        word_by_copy_is_kept left v p o e (ap (λ b. by && not b) (ap (λ k. has_copy k p) same ∙ some) ∙ nothing_and_false_is_false by)
 
 -- by a part that is added
 pub word_by_new_part_is_kept : (left : Undo) (v : HeapState) (p : PinContents) (o : Overwritten) → written left ≡ Some o → goes_by_part v p o.at ≡ true → part_at p.parts o.at.region (o.slot / 1024) ≡ None
     → with_part o.at.region (o.slot / 1024) (part_before o.slot o.old (words_in v o.at)) p ≡ kept left v p
 unfolding kept_word kept_part
-word_by_new_part_is_kept left v p o e yes none = sym (word_is_kept_so left v p o e ∙ ap (λ b. kept_word b o left v p) yes ∙ ap (λ x. kept_part x o left v p) none)
+word_by_new_part_is_kept left v p o e parted none = sym (word_is_kept_so left v p o e ∙ ap (λ b. kept_word b o left v p) parted ∙ ap (λ x. kept_part x o left v p) none)
 
 -- by a part that is there, or, if that doesn't reach the slot, by a copy
 pub word_by_old_part_is_kept : (left : Undo) (v : HeapState) (p : PinContents) (o : Overwritten) (ws : List ℕ) (b : Bool) → written left ≡ Some o → goes_by_part v p o.at ≡ true → part_at p.parts o.at.region (o.slot / 1024) ≡ Some ws → nat_lt (o.slot % 1024) (length ws) ≡ b
     → (if b then p else kept_by_copy left v p) ≡ kept left v p
 unfolding kept_word kept_part
-word_by_old_part_is_kept left v p o ws b e yes some reaches = sym (word_is_kept_so left v p o e ∙ ap (λ b. kept_word b o left v p) yes ∙ ap (λ x. kept_part x o left v p) some ∙ ap (λ t. if t then p else kept_by_copy left v p) reaches)
+word_by_old_part_is_kept left v p o ws b e parted some reaches = sym (word_is_kept_so left v p o e ∙ ap (λ b. kept_word b o left v p) parted ∙ ap (λ x. kept_part x o left v p) some ∙ ap (λ t. if t then p else kept_by_copy left v p) reaches)
 
 -- what the record of a step says of the word
 pub record IsWordOf (v : HeapState) (left : Undo) (o : Overwritten) : Type 0 where

@@ -24,17 +24,21 @@ no_object_is_some e = cc
 
 -- ---- without parts
 
-copy_without_parts : (r : ℕ) (f : Frozen) → frozen_shown [] r f ≡ f
+copy_shown_same : (es : List Part) (r : ℕ) → ((ws : List ℕ) → words_shown es r 0 ws ≡ ws) → (f : Frozen) → frozen_shown es r f ≡ f
 unfolding frozen_shown
-copy_without_parts r f = λ i. record f { cells = (ap (set f.cells 0) (same (frozen_object f 0)) ∙ set-get_or f.cells 0 None) i }
+copy_shown_same es r same f = λ i. record f { cells = (ap (set f.cells 0) (go (frozen_object f 0)) ∙ set-get_or f.cells 0 None) i }
   where
-    same : (x : Option Object) → option_map (object_shown [] r) x ≡ x
-    same None = refl
-    same (Some o) = ap Some (λ i. record o { words = words_without_parts r 0 o.words i })
+    go : (x : Option Object) → option_map (object_shown es r) x ≡ x
+    go None = refl
+    go (Some o) = ap Some (λ i. record o { words = same o.words i })
 
-region_without_parts : (r : ℕ) (x : Option Frozen) → option_map (frozen_shown [] r) x ≡ x
-region_without_parts r None = refl
-region_without_parts r (Some f) = ap Some (copy_without_parts r f)
+-- parts that change no words change no region
+pub region_shown_same : (es : List Part) (r : ℕ) → ((ws : List ℕ) → words_shown es r 0 ws ≡ ws) → (x : Option Frozen) → option_map (frozen_shown es r) x ≡ x
+region_shown_same es r same None = refl
+region_shown_same es r same (Some f) = ap Some (copy_shown_same es r same f)
+
+pub region_without_parts : (r : ℕ) (x : Option Frozen) → option_map (frozen_shown [] r) x ≡ x
+region_without_parts r = region_shown_same [] r (words_without_parts r 0)
 
 -- a pin without parts shows a region by its copy, or as it is
 pub whole_pin_sees : (p : PinContents) (regions : List Region) (r : ℕ) → IsWhole p → region_seen p regions r ≡ copy_or_now (slice_index_or p.copies r None) (region_frozen regions r)
@@ -70,7 +74,7 @@ shown_region_covers es r (Some x) b h f e =
 
 -- ---- the cells of a copy under parts
 
-first_of_set : (cells : List (Option Object)) (g : Option Object → Option Object) → g None ≡ None → slice_index_or (set cells 0 (g (slice_index_or cells 0 None))) 0 None ≡ g (slice_index_or cells 0 None)
+pub first_of_set : (cells : List (Option Object)) (g : Option Object → Option Object) → g None ≡ None → slice_index_or (set cells 0 (g (slice_index_or cells 0 None))) 0 None ≡ g (slice_index_or cells 0 None)
 first_of_set [] g none = sym none
 first_of_set (c ∷ cells) g none = refl
 

@@ -27,6 +27,7 @@ use Rattle.heap_pins.proofs.KeptSteps.{no_word_is_kept_so, word_is_kept_so}
 use Rattle.heap_pins.proofs.Others.{keeps_others, undoing_keeps_region_count}
 use Rattle.heap_pins.proofs.PartRegions.{changed_parts_cover, first_words, first_words_are, overwritten_word_is_hidden_in_region, shown_region_covers, words_with_old_word_are_shown}
 use Rattle.heap_pins.proofs.PartWords.{added_part_is_found, added_part_shows_same, part_before_reaches_slot, part_of_other_region_shows_same}
+use Rattle.heap_pins.proofs.RecordCases.{equal_options_name_same_region}
 use Rattle.heap_pins.proofs.ShownStates.{first_classes, kept_pin_shows_state_after, kept_pin_shows_state_before}
 use Rattle.heap_pins.proofs.States.{word_state}
 
@@ -75,9 +76,6 @@ word_step_is (Store at slot old logged) v o is = subst (IsWordStep (Store at slo
     equal_words e = cc
 word_step_is left v o is = absurd (cc)
 
-equal_options_hold_equal_regions : (q r : ℕ) → Some q ≡ Some r → q ≡ r
-equal_options_hold_equal_regions q r e = cc
-
 module _ (left : Undo) (v : HeapState) (o : Overwritten) (s : IsWordStep left v o) (first : o.at.cell ≡ 0) where
   -- the region before the step
   region_before : region_frozen (undone left v).regions o.at.region ≡ option_map (frozen_word_set 0 o.slot o.old) (region_frozen v.regions o.at.region)
@@ -104,7 +102,7 @@ module _ (left : Undo) (v : HeapState) (o : Overwritten) (s : IsWordStep left v 
       where
         go : (c : Option Frozen) → Covers (copy_or_now c (region_frozen (undone left v).regions r)) (copy_or_now c (region_frozen v.regions r))
         go (Some f) = same_copy_covers (Some f) (Some f) refl
-        go None = keeps_others left v r (λ e. ne (equal_options_hold_equal_regions r o.at.region (sym e ∙ s.region)))
+        go None = keeps_others left v r (λ e. ne (equal_options_name_same_region r o.at.region (sym e ∙ s.region)))
 
     shows_after : ShowsState q u (undone left v) → ShowsState q u v
     unfolding region_seen

@@ -25,11 +25,11 @@ other_key r k q j (inr ne) = go (r == q)
 
 pub added_part_is_found : (es : List Part) (r k : ℕ) (ws : List ℕ) → part_at es r k ≡ None → part_at (es ++ ((r, k), ws) ∷ []) r k ≡ Some ws
 added_part_is_found [] r k ws none = ap (λ b. cond b (Some ws) None) (same_key r k)
-added_part_is_found (e ∷ es) r k ws none = go (same_part (r, k) e.0) none
+added_part_is_found (e ∷ es) r k ws none = go (same_part (r, k) e.0) none (added_part_is_found es r k ws)
   where
-    go : (b : Bool) → cond b (Some e.1) (part_at es r k) ≡ None → cond b (Some e.1) (part_at (es ++ ((r, k), ws) ∷ []) r k) ≡ Some ws
-    go true h = cc
-    go false h = added_part_is_found es r k ws h
+    go : (b : Bool) → cond b (Some e.1) (part_at es r k) ≡ None → (part_at es r k ≡ None → part_at (es ++ ((r, k), ws) ∷ []) r k ≡ Some ws) → cond b (Some e.1) (part_at (es ++ ((r, k), ws) ∷ []) r k) ≡ Some ws
+    go true h next = cc
+    go false h next = next h
 
 pub other_part_stays : (es : List Part) (r k q j : ℕ) (ws : List ℕ) → (r ≢ q) ⊎ (k ≢ j) → part_at (es ++ ((q, j), ws) ∷ []) r k ≡ part_at es r k
 other_part_stays [] r k q j ws ne = ap (λ b. cond b (Some ws) None) (other_key r k q j ne)
@@ -45,13 +45,13 @@ word_of_part : (es : List Part) (r i now : ℕ) (ws : List ℕ) → part_at es r
 unfolding word_shown
 word_of_part es r i now ws there = ap (λ p. option_map_or (λ ws. slice_index_or ws (i % 1024) now) p now) there
 
-word_of_same_part : (es fs : List Part) (r i now : ℕ) → part_at es r (i / 1024) ≡ part_at fs r (i / 1024) → word_shown es r i now ≡ word_shown fs r i now
+pub word_of_same_part : (es fs : List Part) (r i now : ℕ) → part_at es r (i / 1024) ≡ part_at fs r (i / 1024) → word_shown es r i now ≡ word_shown fs r i now
 unfolding word_shown
 word_of_same_part es fs r i now same = ap (λ p. option_map_or (λ ws. slice_index_or ws (i % 1024) now) p now) same
 
 -- ---- lists of words
 
-length_words_shown : (es : List Part) (r i : ℕ) (ws : List ℕ) → length (words_shown es r i ws) ≡ length ws
+pub length_words_shown : (es : List Part) (r i : ℕ) (ws : List ℕ) → length (words_shown es r i ws) ≡ length ws
 unfolding words_shown
 length_words_shown es r i [] = refl
 length_words_shown es r i (w ∷ ws) = ap suc (length_words_shown es r (i + 1) ws)
@@ -62,7 +62,7 @@ word_from es r i [] j d lt = absurd (omega (arith, lt))
 word_from es r i (w ∷ ws) zero d lt = ap (λ n. word_shown es r n w) (let z : i ≡ i + 0 = omega arith in z)
 word_from es r i (w ∷ ws) (suc j) d lt = word_from es r (i + 1) ws j d (omega (arith, lt)) ∙ ap (λ n. word_shown es r n (get_or ws j d)) (let z : i + 1 + j ≡ i + suc j = omega arith in z)
 
-word_there : (es : List Part) (r : ℕ) (ws : List ℕ) (j : ℕ) → j < length ws → get_or (words_shown es r 0 ws) j 0 ≡ word_shown es r j (get_or ws j 0)
+pub word_there : (es : List Part) (r : ℕ) (ws : List ℕ) (j : ℕ) → j < length ws → get_or (words_shown es r 0 ws) j 0 ≡ word_shown es r j (get_or ws j 0)
 word_there es r ws j lt = word_from es r 0 ws j 0 lt ∙ ap (λ n. word_shown es r n (get_or ws j 0)) (let z : 0 + j ≡ j = omega arith in z)
 
 pub shown_alike : (es fs : List Part) (r : ℕ) (xs ys : List ℕ) → length xs ≡ length ys → ((j : ℕ) → j < length xs → word_shown es r j (get_or xs j 0) ≡ word_shown fs r j (get_or ys j 0)) → words_shown es r 0 xs ≡ words_shown fs r 0 ys

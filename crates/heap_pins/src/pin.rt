@@ -117,12 +117,13 @@ impl Pin {
         let classes = world.classes().len();
         let registers = Vec::from_slice(alloc, world.registers())?;
         let kept = KeptRegions::new(alloc, world.regions().count())?;
+        let parts = KeptParts::new(alloc);
         Ok(Pin {
             classes,
             registers,
             ended: false,
             kept,
-            parts: KeptParts::new(alloc),
+            parts,
         })
     }
 

@@ -5,11 +5,12 @@ use Rattle.std.specs.Prelude.{slice_index_or}
 use Rattle.heap_world.specs.State.{HeapState}
 use Rattle.heap_step.specs.declared.Undo.{Undo}
 use Rattle.heap_step.specs.Records.{undone}
-use Rattle.heap_pins.specs.KeptCopies.{ends_cycle, kept, kept_if, noted}
+use Rattle.heap_pins.specs.KeptCopies.{ends_cycle, kept, kept_by_copy, kept_if, noted, touched}
 use Rattle.heap_step.specs.declared.Undo.TheVariants.{Finish, New}
 use Rattle.heap_pins.specs.Pin.{PinContents}
 use Rattle.heap_pins.specs.Shows.{ShowsState}
 use Rattle.heap_pins.proofs.HeldPins.{property_of_first_state}
+use Rattle.heap_pins.proofs.KeptSteps.{untouching_record_keeps_by_copy}
 use Rattle.heap_pins.proofs.Others.{undoing_keeps_region_count}
 use Rattle.heap_trail.specs.declared.held.Held.{Held}
 use Rattle.heap_trail.specs.declared.held.Held.TheVariants.{Kept, Lost}
@@ -89,11 +90,19 @@ pin_of_list_is_sized n (suc i) (s0 ∷ ss) s z lt e = pin_of_list_is_sized n i s
 
 -- ---- a step of which pins keep nothing
 
+unnoted_pin_stays_by_copy : (left : Undo) (v : HeapState) (p : PinContents) → noted left ≡ None → ends_cycle left ≡ false → kept_by_copy left v p ≡ p
+unfolding kept_by_copy kept_if noted ends_cycle
+unnoted_pin_stays_by_copy (New at fresh m r old) v p none no_end = cc
+unnoted_pin_stays_by_copy (Finish log) v p none no_end = cc
+unnoted_pin_stays_by_copy left v p none no_end = ap (λ t. kept_if t left v p) none
+
+unnoted_record_touches_none : (left : Undo) → noted left ≡ None → touched left ≡ None
+unfolding noted touched
+unnoted_record_touches_none (New at fresh m r old) none = refl
+unnoted_record_touches_none left none = none
+
 unnoted_pin_stays : (left : Undo) (v : HeapState) (p : PinContents) → noted left ≡ None → ends_cycle left ≡ false → kept left v p ≡ p
-unfolding kept kept_if noted ends_cycle
-unnoted_pin_stays (New at fresh m r old) v p none no_end = cc
-unnoted_pin_stays (Finish log) v p none no_end = cc
-unnoted_pin_stays left v p none no_end = ap (λ t. kept_if t left v p) none
+unnoted_pin_stays left v p none no_end = sym (untouching_record_keeps_by_copy left v p (unnoted_record_touches_none left none)) ∙ unnoted_pin_stays_by_copy left v p none no_end
 
 unnoted_held_stays : (left : Undo) (v : HeapState) (h : Held) → noted left ≡ None → ends_cycle left ≡ false → h ≡ held_kept left v h
 unfolding held_kept

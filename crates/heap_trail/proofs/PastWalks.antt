@@ -39,7 +39,7 @@ record_of w (r ∷ rs) (suc i) left x told there at =
 pub recorded_pin_can_walk : (w : HeapState) (records : List Undo) (i : ℕ) (left : Undo) (pin : PinContents) → AreRecorded w records → slice_get records i ≡ Some left → IsWalkedTo pin w records i → CanWalk left w pin
 recorded_pin_can_walk w records i left pin told there h =
     let r = record_of w records i left h.0 told there h.1.last in
-    (h.0, r.event, r.step, h.1.pin, property_of_first_state (ShowsState pin h.0) i w (past_of w records) h.1.shows)
+    (h.0, r.event, r.step, h.1.pin, property_of_first_state (ShowsState pin h.0) i w (past_of w records) h.1.shows, h.1.whole)
 
 pub walk_to_past_goes_further : (w : HeapState) (records : List Undo) (i : ℕ) (left : Undo) (p q : PinContents) → AreRecorded w records → slice_get records i ≡ Some left → IsWalkedTo p w records i → IsWalkedBack left w p q → IsWalkedTo q w records (i + 1)
 walk_to_past_goes_further w records i left p q told there h back =

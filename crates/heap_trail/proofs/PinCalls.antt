@@ -1,5 +1,5 @@
 -- What the calls on one pin give.
-use Rattle.std.proofs.Common.{◌≡◌, ℕ, List, ◌<◌, ◌≤◌, Bool, true, false, sym, ap, subst, ◌∙◌, arith, refl, inl, inr, Some, None, Result, Ok, Err}
+use Rattle.std.proofs.Common.{◌≡◌, ℕ, List, ◌<◌, ◌≤◌, Bool, true, false, sym, ap, subst, ◌∙◌, arith, refl, inl, inr, Option, Some, None, Result, Ok, Err}
 use Rattle.std.specs.Prelude.{nat_lt, slice_index_or, is_some, if◌then◌else◌, OnOk}
 use Rattle.std.specs.Result.{is_err}
 use Rattle.heap_class.specs.declared.LostCause.{LostCause}
@@ -9,7 +9,8 @@ use Rattle.heap_step.specs.declared.Undo.{Undo}
 use Rattle.hprof_text.specs.declared.Cursor.{Cursor}
 use Rattle.heap_pins.specs.Pin.{PinContents}
 use Rattle.heap_step.specs.declared.Undo.TheVariants.{Finish, New}
-use Rattle.heap_pins.specs.KeptCopies.{copy_for, kept, kept_at, kept_if, noted, states_before_step, touched, with_byte}
+use Rattle.heap_pins.specs.KeptCopies.{copy_for, kept, kept_at, kept_by_copy, kept_if, noted, states_before_step, touched, with_byte}
+use Rattle.heap_pins.proofs.KeptSteps.{settled_step_goes_by_copy, untouching_record_keeps_by_copy}
 use Rattle.heap_trail.specs.declared.held.Held.{Held}
 use Rattle.heap_trail.specs.declared.held.Held.TheVariants.{Kept, Lost}
 use Rattle.heap_trail.specs.declared.held.NumberedPin.{NumberedPin}
@@ -49,13 +50,31 @@ finish_touches_nothing : (log : List ℕ) (r : ℕ) → touched (Finish log) ≡
 unfolding touched
 finish_touches_nothing log r e = cc
 
-settled_pin : (left : Undo) (v : HeapState) (r : ℕ) (p : PinContents) → noted left ≡ Some r → is_some (slice_index_or p.copies r None) ≡ true → kept left v p ≡ p
-unfolding kept noted
-settled_pin (New at fresh m k old) v r p named some =
+settled_pin_by_copy : (left : Undo) (v : HeapState) (r : ℕ) (p : PinContents) → noted left ≡ Some r → is_some (slice_index_or p.copies r None) ≡ true → kept_by_copy left v p ≡ p
+unfolding kept_by_copy noted
+settled_pin_by_copy (New at fresh m k old) v r p named some =
     let same : at.region ≡ r = cc in
     ap (λ b. if b then p else with_byte at fresh 1 p) (ap (λ j. is_some (slice_index_or p.copies j None)) same ∙ some)
-settled_pin (Finish log) v r p named some = absurd (finish_touches_nothing log r named)
-settled_pin left v r p named some = settled_touched_pin left v r p named some
+settled_pin_by_copy (Finish log) v r p named some = absurd (finish_touches_nothing log r named)
+settled_pin_by_copy left v r p named some = settled_touched_pin left v r p named some
+
+-- what a step touches, pins keep something of
+pub touched_is_noted : (left : Undo) (r : ℕ) → touched left ≡ Some r → noted left ≡ Some r
+unfolding touched noted
+touched_is_noted (New at fresh m k old) r t = cc
+touched_is_noted left r t = t
+
+settled_pin : (left : Undo) (v : HeapState) (r : ℕ) (p : PinContents) → noted left ≡ Some r → is_some (slice_index_or p.copies r None) ≡ true → kept left v p ≡ p
+settled_pin left v r p named some = go (touched left) refl
+  where
+    same_region : {a b : ℕ} → Some a ≡ Some b → a ≡ b
+    same_region e = cc
+
+    go : (t : Option ℕ) → touched left ≡ t → kept left v p ≡ p
+    go None none = sym (untouching_record_keeps_by_copy left v p none) ∙ settled_pin_by_copy left v r p named some
+    go (Some q) t =
+        let same : q ≡ r = same_region (sym (touched_is_noted left q t) ∙ named) in
+        sym (settled_step_goes_by_copy left v p q t (ap (λ j. is_some (slice_index_or p.copies j None)) same ∙ some)) ∙ settled_pin_by_copy left v r p named some
 
 settled_held_is_unchanged : (left : Undo) (v : HeapState) (r : ℕ) (h : Held) → noted left ≡ Some r → is_settled r h ≡ true → h ≡ held_kept left v h
 unfolding held_kept is_settled
@@ -64,12 +83,6 @@ settled_held_is_unchanged left v r (Lost place cause) at settled = refl
 
 pub settled_pin_is_unchanged : (left : Undo) (v : HeapState) (r : ℕ) (s : NumberedPin) → noted left ≡ Some r → is_settled r s.held ≡ true → MayKeep left v s s
 settled_pin_is_unchanged left v r s at settled = inl (ap (λ (h : Held). (let t : NumberedPin = record s { held = h } in t)) (settled_held_is_unchanged left v r s.held at settled))
-
--- what a step touches, pins keep something of
-pub touched_is_noted : (left : Undo) (r : ℕ) → touched left ≡ Some r → noted left ≡ Some r
-unfolding touched noted
-touched_is_noted (New at fresh m k old) r t = cc
-touched_is_noted left r t = t
 
 -- a pin with a place for the copy of each region has one for this
 pub held_pin_has_region_place : (n r : ℕ) (h : Held) → IsSizedHeld n h → r < n → IsRegionWithin r h

@@ -5,7 +5,7 @@ use Rattle.heap_class.specs.declared.IdSize.{IdSize}
 use Rattle.heap_class.specs.declared.Refusal.{Refusal}
 use Rattle.heap_world.specs.State.{HeapState}
 use Rattle.heap_step.specs.declared.Undo.{Undo}
-use Rattle.heap_pins.specs.Pin.{PinContents, pin_image}
+use Rattle.heap_pins.specs.Pin.{PinContents, IsWhole, pin_image}
 use Rattle.heap_pins.specs.Shows.{ShowsState}
 use Rattle.heap_pins.specs.View.{PinShown}
 use Rattle.heap_pins.proofs.HeldPins.{property_of_first_state, held_image}
@@ -21,14 +21,20 @@ use Rattle.heap_trail.specs.Records.{past_of, machine_of}
 use Rattle.heap_trail.specs.Past.{HoldsPast, past_state}
 use Rattle.heap_trail.specs.Views.{CanShow, IsViewBeside, IsViewOf, RefusesView, ShowsAgo, view_refusal}
 
+-- both hold of what an Ok has
+pub both_of_an_ok : {A E : Type 0} {P Q : A → Type 0} (r : Result A E) → IfOk r P → IfOk r Q → IfOk r (λ x. P x × Q x)
+both_of_an_ok (Ok a) p q = (p, q)
+both_of_an_ok (Err e) p q = tt
+
 -- a pin that holds a state of the past shows its image
-pub pin_of_past_shows_ago : (ids : IdSize) (w : HeapState) (ring : Buffer Undo) (place keep next : ℕ) (slots : List NumberedPin) (n : ℕ) (p : PinContents) → HoldsPast p w ring.items n → ShowsAgo (machine_of ids w ring place keep next slots).trail n p
+pub pin_of_past_shows_ago : (ids : IdSize) (w : HeapState) (ring : Buffer Undo) (place keep next : ℕ) (slots : List NumberedPin) (n : ℕ) (p : PinContents) → HoldsPast p w ring.items n → IsWhole p → ShowsAgo (machine_of ids w ring place keep next slots).trail n p
 unfolding state_ago
-pin_of_past_shows_ago ids w ring place keep next slots n p h =
+pin_of_past_shows_ago ids w ring place keep next slots n p h whole =
     let u = past_state w ring.items n in
     let past = past_of w ring.items in
     record {
       shows = (u, h.pin, property_of_first_state (ShowsState p u) n w past h.shows);
+      whole = whole;
       image = held_image p u n w past h;
     }
 

@@ -24,3 +24,6 @@ pub returns-clause-held : goal.returns-clause-held
 returns-clause-held c =
     let done : c.loop-i.i ≡ c.args.n = omega (arith, c.loop-i-test.false, c.loop-i.auto.i-end) in
     walked_pin_holds_past c.args.world.now c.args.records.now.items c.args.n c.loop-i.pin (subst (IsWalkedTo c.loop-i.pin c.args.world.now c.args.records.now.items) done c.loop-i.invariant)
+
+pub returns-clause-whole : goal.returns-clause-whole
+returns-clause-whole c = c.loop-i.invariant.1.whole

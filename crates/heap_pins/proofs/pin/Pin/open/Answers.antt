@@ -10,7 +10,7 @@ pub returns-clause-opened : goal.returns-clause-opened
 returns-clause-opened c past =
     let none : Option Frozen = None in
     let count = c.count.ensures.value ∙ ap (λ (s : RegionPool). length s.regions) c.regions.ensures in
-    opened_pin_walk_begins _ c.args.world.now past c.new.ensures c.registers.ensures.legal
+    opened_pin_walk_begins _ c.args.world.now past c.new-parts.ensures c.registers.ensures.legal
     (c.len-classes.ensures.value ∙ ap (λ (cs : List Class). length cs) c.classes.ensures)
     (c.in_ok-registers.ensures.items ∙ c.registers.ensures.value)
     refl

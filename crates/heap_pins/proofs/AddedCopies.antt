@@ -14,7 +14,7 @@ use Rattle.heap_step.specs.declared.Undo.{Undo}
 use Rattle.heap_step.specs.declared.Undo.TheVariants.{Reclaim, Sweep}
 use Rattle.heap_pins.specs.KeptCopies.{bytes_with, has_copy, kept_at, touched, with_byte, with_copy, with_dead}
 use Rattle.heap_pins.specs.KeptRegions.{IsRevivedTable, KeptContents, blank}
-use Rattle.heap_pins.specs.Pin.{PinContents, IsWhole, cell_state, copy_or_now, region_seen, state_kept, state_seen}
+use Rattle.heap_pins.specs.Pin.{PinContents, HasNoParts, cell_state, copy_or_now, region_seen, state_kept, state_seen}
 use Rattle.heap_pins.specs.Shows.{AreFit}
 use Rattle.heap_pins.specs.States.{AreOf, AreRestored, AreSettled, cell_of, cell_states, storage_states}
 use Rattle.heap_pins.specs.Walk.{dead_state, states_before}
@@ -64,7 +64,7 @@ bytes_are_set p i k at fresh byte bytes is put same =
     ∙ ap (with_byte at fresh byte) is
 
 -- what a pin without parts sees of a region, by its copy
-pub region_seen_by : (p : PinContents) (regions : List Region) (r : ℕ) (x : Option Frozen) → IsWhole p → slice_index_or p.copies r None ≡ x → region_seen p regions r ≡ copy_or_now x (region_frozen regions r)
+pub region_seen_by : (p : PinContents) (regions : List Region) (r : ℕ) (x : Option Frozen) → HasNoParts p → slice_index_or p.copies r None ≡ x → region_seen p regions r ≡ copy_or_now x (region_frozen regions r)
 region_seen_by p regions r x whole e = whole_pin_sees p regions r whole ∙ ap (λ z. copy_or_now z (region_frozen regions r)) e
 
 pub frozen_used : (regions : List Region) (r : ℕ) → IsSome (region_frozen regions r) → IsSome (used_at regions r)

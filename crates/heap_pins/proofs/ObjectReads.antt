@@ -8,23 +8,20 @@ use Rattle.heap_region.specs.RegionCopies.{Frozen, frozen, frozen_object, region
 use Rattle.heap_region.proofs.ShownRegions.{object_here}
 use Rattle.hprof_text.specs.Image.{DumpedObject}
 use Rattle.hprof_text.proofs.ViewedObjects.{object_of_its_parts}
-use Rattle.heap_pins.specs.Pin.{PinContents, IsWhole, place, places_from, copy_or_now, region_seen, cell_dumped, object_seen}
+use Rattle.heap_pins.specs.Pin.{PinContents, HasNoParts, place, places_from, copy_or_now, region_seen, cell_dumped, object_seen}
 use Rattle.heap_pins.specs.Shows.{IsSeen}
 use Rattle.heap_pins.proofs.NextPlace.{ComesAfter, each_place_has_a_successor}
-use Rattle.heap_pins.proofs.PartRegions.{whole_pin_sees}
-
-equal_options_hold_equal_copies : {f g : Frozen} → Some f ≡ Some g → f ≡ g
-equal_options_hold_equal_copies e = cc
+use Rattle.heap_pins.proofs.PartRegions.{equal_copies, whole_pin_sees}
 
 -- there is a copy
-pub pin_sees_its_copy : (p : PinContents) (regions : List Region) (at : ObjRef) (f : Frozen) → IsWhole p → slice_index_or p.copies at.region None ≡ Some f → region_seen p regions at.region ≡ Some f
+pub pin_sees_its_copy : (p : PinContents) (regions : List Region) (at : ObjRef) (f : Frozen) → HasNoParts p → slice_index_or p.copies at.region None ≡ Some f → region_seen p regions at.region ≡ Some f
 pin_sees_its_copy p regions at f whole e = whole_pin_sees p regions at.region whole ∙ ap (λ x. copy_or_now x (region_frozen regions at.region)) e
 
-pub copy_has : (p : PinContents) (regions : List Region) (at : ObjRef) (f : Frozen) → IsWhole p → IsSeen p regions at → slice_index_or p.copies at.region None ≡ Some f → IsSome (frozen_object f at.cell)
-copy_has p regions at f whole s e = subst (λ (g : Frozen). IsSome (frozen_object g at.cell)) (equal_options_hold_equal_copies (sym s.2 ∙ pin_sees_its_copy p regions at f whole e)) s.3
+pub copy_has : (p : PinContents) (regions : List Region) (at : ObjRef) (f : Frozen) → HasNoParts p → IsSeen p regions at → slice_index_or p.copies at.region None ≡ Some f → IsSome (frozen_object f at.cell)
+copy_has p regions at f whole s e = subst (λ (g : Frozen). IsSome (frozen_object g at.cell)) (equal_copies (sym s.2 ∙ pin_sees_its_copy p regions at f whole e)) s.3
 
 -- there is none
-pub region_as_is : (p : PinContents) (regions : List Region) (at : ObjRef) → IsWhole p → slice_index_or p.copies at.region None ≡ None → region_seen p regions at.region ≡ region_frozen regions at.region
+pub region_as_is : (p : PinContents) (regions : List Region) (at : ObjRef) → HasNoParts p → slice_index_or p.copies at.region None ≡ None → region_seen p regions at.region ≡ region_frozen regions at.region
 region_as_is p regions at whole e = whole_pin_sees p regions at.region whole ∙ ap (λ x. copy_or_now x (region_frozen regions at.region)) e
 
 frozen_object_is_the_object : (regions : List Region) (at : ObjRef) (f : Frozen) → region_frozen regions at.region ≡ Some f → frozen_object f at.cell ≡ object_at regions at
@@ -33,9 +30,9 @@ frozen_object_is_the_object regions at f e = go (used_at regions at.region) refl
   where
     go : (x : Option UsedRegion) → used_at regions at.region ≡ x → option_map frozen x ≡ Some f → frozen_object f at.cell ≡ object_at regions at
     go None u e = absurd (cc)
-    go (Some u) used e = ap (λ (g : Frozen). frozen_object g at.cell) (sym (equal_options_hold_equal_copies e)) ∙ sym (object_here regions at u used)
+    go (Some u) used e = ap (λ (g : Frozen). frozen_object g at.cell) (sym (equal_copies e)) ∙ sym (object_here regions at u used)
 
-pub region_has : (p : PinContents) (regions : List Region) (at : ObjRef) → IsWhole p → IsSeen p regions at → slice_index_or p.copies at.region None ≡ None → IsSome (object_at regions at)
+pub region_has : (p : PinContents) (regions : List Region) (at : ObjRef) → HasNoParts p → IsSeen p regions at → slice_index_or p.copies at.region None ≡ None → IsSome (object_at regions at)
 region_has p regions at whole s e = subst (λ x. IsSome x) (frozen_object_is_the_object regions at s.1 (sym (region_as_is p regions at whole e) ∙ s.2)) s.3
 
 -- what holds of the object holds of what a dump shows
@@ -46,12 +43,12 @@ property_of_dumped_cell at f Q R each q = go (frozen_object f at.cell) q
     go None q = tt
     go (Some o) q = each o _ q
 
-pub copy_reads : (p : PinContents) (regions : List Region) (at : ObjRef) (f : Frozen) (Q : Object → Type 0) (R : DumpedObject → Type 0) → ((o : Object) (x : ℕ) → Q o → R (record { id = x; kind = o.kind; words = o.words })) → IsWhole p → slice_index_or p.copies at.region None ≡ Some f
+pub copy_reads : (p : PinContents) (regions : List Region) (at : ObjRef) (f : Frozen) (Q : Object → Type 0) (R : DumpedObject → Type 0) → ((o : Object) (x : ℕ) → Q o → R (record { id = x; kind = o.kind; words = o.words })) → HasNoParts p → slice_index_or p.copies at.region None ≡ Some f
     → IfSome (frozen_object f at.cell) Q → IfSome (object_seen p regions at) R
 unfolding object_seen
 copy_reads p regions at f Q R each whole e q = subst (λ (x : Option Frozen). IfSome (option_and_then (cell_dumped at) x) R) (sym (pin_sees_its_copy p regions at f whole e)) (property_of_dumped_cell at f Q R each q)
 
-pub region_reads : (p : PinContents) (regions : List Region) (at : ObjRef) (Q : Object → Type 0) (R : DumpedObject → Type 0) → ((o : Object) (x : ℕ) → Q o → R (record { id = x; kind = o.kind; words = o.words })) → IsWhole p → IsSeen p regions at → slice_index_or p.copies at.region None ≡ None
+pub region_reads : (p : PinContents) (regions : List Region) (at : ObjRef) (Q : Object → Type 0) (R : DumpedObject → Type 0) → ((o : Object) (x : ℕ) → Q o → R (record { id = x; kind = o.kind; words = o.words })) → HasNoParts p → IsSeen p regions at → slice_index_or p.copies at.region None ≡ None
     → IfSome (object_at regions at) Q → IfSome (object_seen p regions at) R
 unfolding object_seen
 region_reads p regions at Q R each whole s e q =
@@ -67,7 +64,7 @@ copy_named at f n e = go (frozen_object f at.cell)
     go None = tt
     go (Some o) = e
 
-pub copy_id : (p : PinContents) (regions : List Region) (at : ObjRef) (f : Frozen) (n : ℕ) → IsWhole p → slice_index_or p.copies at.region None ≡ Some f → n ≡ object_base + 8 * (1024 * at.region + at.cell * f.cell_size) → IfSome (object_seen p regions at) (λ o. n ≡ o.id)
+pub copy_id : (p : PinContents) (regions : List Region) (at : ObjRef) (f : Frozen) (n : ℕ) → HasNoParts p → slice_index_or p.copies at.region None ≡ Some f → n ≡ object_base + 8 * (1024 * at.region + at.cell * f.cell_size) → IfSome (object_seen p regions at) (λ o. n ≡ o.id)
 unfolding object_seen
 copy_id p regions at f n whole e is = subst (λ (x : Option Frozen). IfSome (option_and_then (cell_dumped at) x) (λ o. n ≡ o.id)) (sym (pin_sees_its_copy p regions at f whole e)) (copy_named at f n is)
 
@@ -77,9 +74,9 @@ id_as_is regions at f e = ap (λ n. object_base + 8 * (1024 * at.region + at.cel
   where
     go : (x : Option UsedRegion) → option_map frozen x ≡ Some f → option_map_or (λ (u : UsedRegion). u.cell_size) x 0 ≡ f.cell_size
     go None e = cc
-    go (Some u) e = ap (λ (g : Frozen). g.cell_size) (equal_options_hold_equal_copies e)
+    go (Some u) e = ap (λ (g : Frozen). g.cell_size) (equal_copies e)
 
-pub region_id : (p : PinContents) (regions : List Region) (at : ObjRef) (n : ℕ) → IsWhole p → IsSeen p regions at → slice_index_or p.copies at.region None ≡ None → n ≡ id_of regions at → IfSome (object_seen p regions at) (λ o. n ≡ o.id)
+pub region_id : (p : PinContents) (regions : List Region) (at : ObjRef) (n : ℕ) → HasNoParts p → IsSeen p regions at → slice_index_or p.copies at.region None ≡ None → n ≡ id_of regions at → IfSome (object_seen p regions at) (λ o. n ≡ o.id)
 unfolding object_seen
 region_id p regions at n whole s e is =
     subst (λ (x : Option Frozen). IfSome (option_and_then (cell_dumped at) x) (λ o. n ≡ o.id)) (sym s.2)
@@ -94,7 +91,7 @@ copied_object_of_its_parts at f d named kind words =
     (property_of_dumped_cell at f (λ o. d.kind ≡ o.kind) (λ o. d.kind ≡ o.kind) (λ o x q. q) kind)
     (property_of_dumped_cell at f (λ o. d.words ≡ o.words) (λ o. d.words ≡ o.words) (λ o x q. q) words)
 
-pub copied_object_is_seen : (p : PinContents) (regions : List Region) (at : ObjRef) (f : Frozen) (R : DumpedObject → Type 0) → IsWhole p → slice_index_or p.copies at.region None ≡ Some f → IfSome (cell_dumped at f) R → IfSome (object_seen p regions at) R
+pub copied_object_is_seen : (p : PinContents) (regions : List Region) (at : ObjRef) (f : Frozen) (R : DumpedObject → Type 0) → HasNoParts p → slice_index_or p.copies at.region None ≡ Some f → IfSome (cell_dumped at f) R → IfSome (object_seen p regions at) R
 unfolding object_seen
 copied_object_is_seen p regions at f R whole e h = subst (λ (x : Option Frozen). IfSome (option_and_then (cell_dumped at) x) R) (sym (pin_sees_its_copy p regions at f whole e)) h
 

@@ -5,7 +5,7 @@ use Rattle.std.proofs.lemmas.List.{get_or-replicate, length-replicate}
 use Rattle.heap_region.specs.RegionCopies.{Frozen, region_frozen}
 use Rattle.heap_world.specs.State.{HeapState}
 use Rattle.heap_pins.specs.KeptRegions.{blank}
-use Rattle.heap_pins.specs.Pin.{PinContents, IsWhole, byte_in, copy_or_now, region_seen, state_kept}
+use Rattle.heap_pins.specs.Pin.{PinContents, HasNoParts, byte_in, copy_or_now, region_seen, state_kept}
 use Rattle.heap_pins.specs.Shows.{AreCells, ShowsState}
 use Rattle.heap_pins.specs.States.{cell_states}
 use Rattle.heap_pins.proofs.CellStates.{free_cell_is_kept}
@@ -38,7 +38,7 @@ blank_cells_are_cells n = record {
   each = λ r lt. ap length (get_or-replicate n r blank [] lt) ∙ length_of_blank;
 }
 
-pub opened_pin_shows_its_state : (p : PinContents) (w : HeapState) → IsWhole p → p.ended ≡ false → p.copies ≡ replicate (length w.regions) None → p.cells ≡ replicate (length w.regions) blank → ShowsState p w w
+pub opened_pin_shows_its_state : (p : PinContents) (w : HeapState) → HasNoParts p → p.ended ≡ false → p.copies ≡ replicate (length w.regions) None → p.cells ≡ replicate (length w.regions) blank → ShowsState p w w
 opened_pin_shows_its_state p w whole ended copies cells = record {
   count = refl;
   classes = take_of_whole_list w.classes;

@@ -1,5 +1,5 @@
 -- Regions under the parts that a pin has of their objects.
-use Rattle.std.proofs.Common.{◌≡◌, ◌≢◌, ℕ, zero, suc, ◌/◌, ◌%◌, ◌<◌, List, [], ◌∷◌, ◌++◌, length, length-set, set, get_or, Option, Some, None, refl, sym, ap, subst, ◌∙◌}
+use Rattle.std.proofs.Common.{◌≡◌, ℕ, zero, suc, ◌/◌, ◌%◌, ◌<◌, List, [], ◌∷◌, length, length-set, set, Option, Some, None, refl, sym, ap, subst, ◌∙◌}
 use Rattle.std.specs.Prelude.{option_map, slice_index_or, slice_set}
 use Rattle.std.proofs.lemmas.List.{set-get_or, set-set}
 use Rattle.heap_class.specs.declared.ObjRef.{ObjRef}
@@ -8,15 +8,15 @@ use Rattle.heap_region.specs.Regions.{Object, UsedRegion, Region, object_at, slo
 use Rattle.heap_region.specs.RegionCopies.{Frozen, frozen, frozen_object, frozen_word_set, region_frozen}
 use Rattle.heap_region.proofs.ShownRegions.{object_of_used}
 use Rattle.heap_pins.specs.Covers.{HasAll, Covers}
-use Rattle.heap_pins.specs.Parts.{Part, frozen_shown, object_shown, part_at, part_before, words_shown}
-use Rattle.heap_pins.specs.Pin.{PinContents, IsWhole, copy_or_now, region_seen}
-use Rattle.heap_pins.proofs.PartWords.{added_part_shows_same, overwritten_word_is_hidden, words_without_parts}
+use Rattle.heap_pins.specs.Parts.{Part, frozen_shown, object_shown, part_at, words_shown}
+use Rattle.heap_pins.specs.Pin.{PinContents, HasNoParts, copy_or_now, region_seen}
+use Rattle.heap_pins.proofs.PartWords.{overwritten_word_is_hidden, words_without_parts}
 use Rattle.heap_pins.proofs.WalkSteps.{cell_written_in_both_stands}
 
 no_frozen_is_some : {f : Frozen} → None ≡ Some f → ⊥
 no_frozen_is_some e = cc
 
-equal_copies : {f g : Frozen} → Some f ≡ Some g → f ≡ g
+pub equal_copies : {f g : Frozen} → Some f ≡ Some g → f ≡ g
 equal_copies e = cc
 
 no_object_is_some : {o : Object} → None ≡ Some o → ⊥
@@ -41,7 +41,7 @@ pub region_without_parts : (r : ℕ) (x : Option Frozen) → option_map (frozen_
 region_without_parts r = region_shown_same [] r (words_without_parts r 0)
 
 -- a pin without parts shows a region by its copy, or as it is
-pub whole_pin_sees : (p : PinContents) (regions : List Region) (r : ℕ) → IsWhole p → region_seen p regions r ≡ copy_or_now (slice_index_or p.copies r None) (region_frozen regions r)
+pub whole_pin_sees : (p : PinContents) (regions : List Region) (r : ℕ) → HasNoParts p → region_seen p regions r ≡ copy_or_now (slice_index_or p.copies r None) (region_frozen regions r)
 unfolding region_seen
 whole_pin_sees p regions r whole =
     ap (λ (es : List Part). option_map (frozen_shown es r) (copy_or_now (slice_index_or p.copies r None) (region_frozen regions r))) whole

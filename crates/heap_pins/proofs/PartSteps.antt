@@ -1,11 +1,9 @@
 -- A pin that keeps what steps overwrite of large objects by parts goes on showing its state.
-use Rattle.std.proofs.Common.{◌≡◌, ◌≢◌, ◌⊎◌, ℕ, ◌/◌, ◌%◌, ◌<◌, Bool, true, false, ◌&&◌, not, List, [], ◌∷◌, ◌++◌, length, set, Option, Some, None, refl, sym, ap, subst, ◌∙◌}
+use Rattle.std.proofs.Common.{◌≡◌, ◌≢◌, ℕ, ◌/◌, ◌%◌, ◌<◌, Bool, true, false, ◌&&◌, not, List, [], ◌∷◌, ◌++◌, length, Option, Some, None, refl, sym, ap, subst, ◌∙◌}
 use mathlib.Core.Logic.{inl, inr}
 use Rattle.std.specs.Prelude.{◌==◌, nat_lt, option_map, slice_index_or, slice_set, if◌then◌else◌}
 use Rattle.std.proofs.lemmas.Bool.{eqb-true, ltb-true}
-use Rattle.heap_class.specs.declared.ObjRef.{ObjRef}
-use Rattle.heap_region.specs.Layout.{words_of}
-use Rattle.heap_region.specs.Regions.{Object, object_at, with_word}
+use Rattle.heap_region.specs.Regions.{Object, with_word}
 use Rattle.heap_region.specs.RegionCopies.{Frozen, frozen_object, frozen_word_set, region_frozen}
 use Rattle.heap_region.proofs.ChangedLookups.{same_or_not}
 use Rattle.heap_world.specs.State.{HeapState}

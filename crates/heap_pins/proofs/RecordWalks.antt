@@ -16,7 +16,7 @@ use Rattle.heap_step.specs.Records.{undone}
 use Rattle.heap_step.proofs.EventLaws.{undo_restores}
 use Rattle.heap_pins.specs.KeptCopies.{touched, has_copy, with_copy}
 use Rattle.heap_pins.specs.KeptRegions.{blank, byte_revived}
-use Rattle.heap_pins.specs.Pin.{PinContents, IsWhole, byte_in, region_seen, state_kept, state_seen, states_of_region}
+use Rattle.heap_pins.specs.Pin.{PinContents, HasNoParts, byte_in, region_seen, state_kept, state_seen, states_of_region}
 use Rattle.heap_pins.specs.Shows.{AreCells, IsPinOf, ShowsState, OfFirst, Holds}
 use Rattle.heap_pins.specs.States.{cell_states}
 use Rattle.heap_pins.specs.Walk.{ShowsBack, TellsBefore, states_before, registers_before, classes_before, walked_copy}
@@ -32,7 +32,7 @@ use Rattle.heap_pins.proofs.WalkInvariants.{walk_shows_beside_later_state, walk_
 
 -- ---- the start
 
-pub opened_pin_walk_begins : (p : PinContents) (w : HeapState) (past : List HeapState) → IsWhole p → IsLegal w → p.classes ≡ length w.classes → p.registers ≡ w.registers → p.ended ≡ false → p.copies ≡ replicate (length w.regions) None → p.cells ≡ replicate (length w.regions) blank
+pub opened_pin_walk_begins : (p : PinContents) (w : HeapState) (past : List HeapState) → HasNoParts p → IsLegal w → p.classes ≡ length w.classes → p.registers ≡ w.registers → p.ended ≡ false → p.copies ≡ replicate (length w.regions) None → p.cells ≡ replicate (length w.regions) blank
     → IsWalked p w 0 (w ∷ past)
 opened_pin_walk_begins p w past whole legal classes registers ended copies cells =
     let none : Option Frozen = None in
@@ -252,7 +252,7 @@ pin_walk_goes_one_back left e x w p q n past s b next h =
     let tells : TellsBefore left (undone left x) x = told_before left e x s in
     let now : ShowsState p x w = property_of_first_state (ShowsState p x) n w past h.shows in
     let itself : ShowsState p x x = property_of_nth_state (ShowsState p x) n x (w ∷ past) h.shows h.last in
-    let whole : IsWhole q = b.parts ∙ h.whole in
+    let whole : HasNoParts q = b.parts ∙ h.whole in
     record {
       whole = whole;
       pin = pin_before left e x w p q s b h.pin;

@@ -10,7 +10,7 @@ use Rattle.heap_pins.specs.Covers.{Covers}
 use Rattle.heap_pins.specs.KeptCopies.{touched}
 use Rattle.heap_class.specs.declared.ObjRef.{ObjRef}
 use Rattle.heap_region.specs.Regions.{object_at}
-use Rattle.heap_pins.specs.Pin.{PinContents, IsWhole, cell_state, copy_or_now, region_seen, state_seen}
+use Rattle.heap_pins.specs.Pin.{PinContents, HasNoParts, cell_state, copy_or_now, region_seen, state_seen}
 use Rattle.heap_pins.specs.Shows.{ShowsState, OfFirst}
 use Rattle.heap_pins.specs.Walk.{ShowsBack, TellsBefore, WalksFor, state_before, states_before}
 use Rattle.heap_pins.proofs.CellStates.{shown_state_is_shown_beside_itself}
@@ -39,7 +39,7 @@ walked_states left x w s p q tells back now here at lt =
     ∙ sym (tells.states at)
 
 -- beside a state that came since, and the current one is such a state
-pub walk_shows_beside_later_state : (left : Undo) (x w s : HeapState) (p q : PinContents) → IsWhole p → IsWhole q → TellsBefore left (undone left x) x → WalksFor left w p q → ShowsBack left w p q → ShowsState p x w → ShowsState p x s → ShowsState q (undone left x) s
+pub walk_shows_beside_later_state : (left : Undo) (x w s : HeapState) (p q : PinContents) → HasNoParts p → HasNoParts q → TellsBefore left (undone left x) x → WalksFor left w p q → ShowsBack left w p q → ShowsState p x w → ShowsState p x s → ShowsState q (undone left x) s
 walk_shows_beside_later_state left x w s p q whole still tells k back now here = record {
   count = here.count ∙ undoing_keeps_region_count left x;
   classes = first_classes (undone left x).classes x.classes s.classes (record_extends left x) here.classes;
@@ -54,7 +54,7 @@ walk_shows_beside_later_state left x w s p q whole still tells k back now here =
         (copy_covers_through_another _ _ _ (keeps_others left x r t) (subst (Covers (region_frozen x.regions r)) (whole_pin_sees p s.regions r whole) (here.objects r)))
 
 -- beside the state itself
-pub walk_shows_beside_itself : (left : Undo) (x w : HeapState) (p q : PinContents) → IsWhole p → IsWhole q → TellsBefore left (undone left x) x → WalksFor left w p q → ShowsBack left w p q → ShowsState p x w → ShowsState p x x → ShowsState q (undone left x) (undone left x)
+pub walk_shows_beside_itself : (left : Undo) (x w : HeapState) (p q : PinContents) → HasNoParts p → HasNoParts q → TellsBefore left (undone left x) x → WalksFor left w p q → ShowsBack left w p q → ShowsState p x w → ShowsState p x x → ShowsState q (undone left x) (undone left x)
 walk_shows_beside_itself left x w p q whole still tells k back now here = record {
   count = refl;
   classes = take_of_whole_list (undone left x).classes;

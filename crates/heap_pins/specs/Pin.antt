@@ -93,8 +93,8 @@ region_seen p regions r =
     (copy_or_now (slice_index_or p.copies r None) (region_frozen regions r))
 
 -- the pin has no parts, so that it shows each object by one list of words that lie together
-abbrev pub IsWhole : PinContents → Type 0
-IsWhole p = p.parts ≡ []
+abbrev pub HasNoParts : PinContents → Type 0
+HasNoParts p = p.parts ≡ []
 
 -- the object in a cell of a copy, as a dump shows it
 abbrev pub cell_dumped : ObjRef → Frozen → Option DumpedObject

@@ -11,7 +11,7 @@ use Rattle.heap_step.specs.Laws.{IsStep}
 use Rattle.heap_step.specs.Records.{undone}
 use Rattle.heap_pins.specs.KeptRegions.{byte_revived}
 use Rattle.heap_pins.specs.KeptCopies.{has_copy, with_byte, with_copy}
-use Rattle.heap_pins.specs.Pin.{PinContents, IsWhole, byte_in, region_seen, state_seen, states_of_region}
+use Rattle.heap_pins.specs.Pin.{PinContents, HasNoParts, byte_in, region_seen, state_seen, states_of_region}
 use Rattle.heap_pins.specs.SharedCopies.{IsPatchable}
 use Rattle.heap_pins.specs.Shows.{AreCells, Holds, IsPinOf, OfFirst, ShowsState}
 use Rattle.heap_pins.specs.Walk.{ShowsBack, WalksFor, classes_before, registers_before, states_before, walked_copy}
@@ -20,7 +20,7 @@ use Rattle.heap_pins.specs.Walk.{ShowsBack, WalksFor, classes_before, registers_
 -- of them, and has no parts; the current state is the first
 pub record IsWalked (p : PinContents) (x : HeapState) (n : ℕ)
     (states : List HeapState) : Type 0 where
-  pub whole : IsWhole p
+  pub whole : HasNoParts p
   pub pin : IsPinOf p x
   pub last : slice_get states n ≡ Some x
   pub shows : OfFirst (ShowsState p x) n states
@@ -29,7 +29,7 @@ pub record IsWalked (p : PinContents) (x : HeapState) (n : ℕ)
 abbrev pub CanWalk : Undo → HeapState → PinContents → Type 0
 CanWalk left w p =
     (x : HeapState) × (e : Event) × IsStep e (undone left x) x left × IsPinOf p x × ShowsState p x w
-    × IsWhole p
+    × HasNoParts p
 
 -- p was walked one record further back, beside the current state w, and is q
 pub record IsWalkedBack (left : Undo) (w : HeapState) (p q : PinContents) : Type 0 where

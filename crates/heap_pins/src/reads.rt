@@ -4,7 +4,7 @@ ghost use Rattle.memchr.specs.Find.{IsFirstByte, is_byte};
 ghost use Rattle.heap_region.specs.Limits.{cell_limit, region_limit, region_words};
 ghost use Rattle.heap_region.specs.RegionCopies.{frozen_object};
 ghost use Rattle.heap_region.specs.Regions.{object_base};
-ghost use Rattle.heap_pins.specs.Pin.{IsPlaceAfter, IsWhole, byte_in, cell_dumped, object_seen, places_seen, state_seen, states_seen};
+ghost use Rattle.heap_pins.specs.Pin.{IsPlaceAfter, HasNoParts, byte_in, cell_dumped, object_seen, places_seen, state_seen, states_seen};
 ghost use Rattle.heap_pins.specs.Shows.{IsSeen};
 ghost use Rattle.heap_pins.specs.States.{IsFirstIn, IsFirstPlace, IsShownIf, state_by, state_in_storage};
 
@@ -163,7 +163,7 @@ impl Pin {
     /// Returns the kind of the object at this place, which must have one.
     pub fn kind(&self, world: &World, at: ObjRef) -> ObjKind
         requires seen { IsSeen self.now world.now.regions at }
-        requires whole { IsWhole self.now }
+        requires whole { HasNoParts self.now }
         ensures { IfSome (object_seen self.now world.now.regions at) (λ o. result ≡ o.kind) }
     {
         match self.copy_of(at.region) {
@@ -175,7 +175,7 @@ impl Pin {
     /// Returns the id of the object at this place, which must have one: the address of its first word.
     pub fn id(&self, world: &World, at: ObjRef) -> u64
         requires seen { IsSeen self.now world.now.regions at }
-        requires whole { IsWhole self.now }
+        requires whole { HasNoParts self.now }
         ensures { IfSome (object_seen self.now world.now.regions at) (λ o. result ≡ o.id) }
     {
         match self.copy_of(at.region) {
@@ -188,7 +188,7 @@ impl Pin {
     #[inline(always)]
     pub fn words<'b>(&'b self, world: &'b World, at: ObjRef) -> &'b [u64]
         requires seen { IsSeen self.now world.now.regions at }
-        requires whole { IsWhole self.now }
+        requires whole { HasNoParts self.now }
         ensures { IfSome (object_seen self.now world.now.regions at) (λ o. result.now ≡ o.words) }
     {
         match self.copy_of(at.region) {
@@ -201,7 +201,7 @@ impl Pin {
     #[inline(always)]
     pub fn object<'b>(&'b self, world: &'b World, at: ObjRef) -> ShownObject<'b>
         requires seen { IsSeen self.now world.now.regions at }
-        requires whole { IsWhole self.now }
+        requires whole { HasNoParts self.now }
         ensures { IfSome (object_seen self.now world.now.regions at) (λ o. result ≡ o) }
     {
         match self.copy_of(at.region) {

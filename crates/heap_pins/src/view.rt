@@ -1,6 +1,6 @@
 //! The view of a pin, of which a dump is made.
 ghost use Rattle.std.specs.Prelude.{◌≡◌};
-ghost use Rattle.heap_pins.specs.View.{ShowsWhole};
+ghost use Rattle.heap_pins.specs.View.{ShowsWithoutParts};
 
 use crate::Pin;
 use heap_class::{FirstClasses, IdSize, ObjKind, ObjRef};
@@ -17,19 +17,19 @@ pub struct PinView<'a> {
 }
 
 impl<'a> Model for PinView<'a> {
-    ghost use Rattle.heap_pins.specs.View.{PinShown, ShowsWhole};
+    ghost use Rattle.heap_pins.specs.View.{PinShown, ShowsWithoutParts};
 
     ghost Value = { PinShown };
 
     ghost view = { λ v. record { pin = v.pin.now; state = v.world.now; ids = v.ids } };
 
-    ghost invariant = { λ v. ShowsWhole v.pin.now v.world.now };
+    ghost invariant = { λ v. ShowsWithoutParts v.pin.now v.world.now };
 }
 
 impl<'a> PinView<'a> {
     /// Creates the view of a pin beside a state. The pin must show some legal state beside it, and have no parts.
     pub fn new(pin: &'a Pin, world: &'a World, ids: IdSize) -> PinView<'a>
-        requires { ShowsWhole pin.now world.now }
+        requires { ShowsWithoutParts pin.now world.now }
         ensures { result ≡ record { pin = pin.now; state = world.now; ids = ids } }
     {
         PinView { pin, world, ids }

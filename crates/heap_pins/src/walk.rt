@@ -3,7 +3,7 @@ ghost use Rattle.std.specs.Prelude.{◌≡◌, ◌<◌, length, Some, IsSome, If
 ghost use Rattle.heap_class.specs.declared.Refusal.TheVariants.{NoMemory};
 ghost use Rattle.heap_world.specs.State.{register_index};
 ghost use Rattle.heap_pins.specs.KeptCopies.{touched};
-ghost use Rattle.heap_pins.specs.Pin.{IsWhole, region_seen};
+ghost use Rattle.heap_pins.specs.Pin.{HasNoParts, region_seen};
 ghost use Rattle.heap_pins.specs.SharedCopies.{HasLowCells};
 ghost use Rattle.heap_pins.specs.Walk.{walked_copy};
 ghost use Rattle.heap_pins.specs.WalkedPins.{CanWalk, IsRevived, IsWalkedBack};
@@ -65,7 +65,7 @@ impl Pin {
         requires sized { length self.old.copies ≡ length world.now.regions }
         requires there { CanPatch left.now self.old world.now.regions region }
         requires within { HasLowCells left.now }
-        requires whole { IsWhole self.old }
+        requires whole { HasNoParts self.old }
         ensures put { OnOk result
             (self.new ≡ with_copy_before left.now world.now region self.old) }
         ensures refused { IfErr result (λ e. e ≡ NoMemory) }
@@ -88,7 +88,7 @@ impl Pin {
     ) -> Result<RegionCopy, Refusal>
         requires region { region < length self.old.copies }
         requires there { CanPatch left.now self.old world.now.regions region }
-        requires whole { IsWhole self.old }
+        requires whole { HasNoParts self.old }
         ensures taken { let seen = region_seen self.old world.now.regions region in
             IfOk result (λ c. walked_copy left.now seen ≡ Some c) }
         ensures left { self.new ≡ without_copy region self.old }
@@ -113,7 +113,7 @@ impl Pin {
     fn take_copy(&mut self, world: &World, region: u64) -> Result<RegionCopy, Refusal>
         requires sized { region < length self.old.copies }
         requires there { IsSome (region_seen self.old world.now.regions region) }
-        requires whole { IsWhole self.old }
+        requires whole { HasNoParts self.old }
         ensures taken { IfOk result (Sees self.old world.now.regions region) }
         ensures left { self.new ≡ without_copy region self.old }
         ensures refused { IfErr result (λ e. e ≡ NoMemory) }

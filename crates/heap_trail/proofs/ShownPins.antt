@@ -5,7 +5,7 @@ use Rattle.heap_class.specs.declared.IdSize.{IdSize}
 use Rattle.heap_class.specs.declared.Refusal.{Refusal}
 use Rattle.heap_world.specs.State.{HeapState}
 use Rattle.heap_step.specs.declared.Undo.{Undo}
-use Rattle.heap_pins.specs.Pin.{PinContents, IsWhole, pin_image}
+use Rattle.heap_pins.specs.Pin.{PinContents, HasNoParts, pin_image}
 use Rattle.heap_pins.specs.Shows.{ShowsState}
 use Rattle.heap_pins.specs.View.{PinShown}
 use Rattle.heap_pins.proofs.HeldPins.{property_of_first_state, held_image}
@@ -27,7 +27,7 @@ both_of_an_ok (Ok a) p q = (p, q)
 both_of_an_ok (Err e) p q = tt
 
 -- a pin that holds a state of the past shows its image
-pub pin_of_past_shows_ago : (ids : IdSize) (w : HeapState) (ring : Buffer Undo) (place keep next : ℕ) (slots : List NumberedPin) (n : ℕ) (p : PinContents) → HoldsPast p w ring.items n → IsWhole p → ShowsAgo (machine_of ids w ring place keep next slots).trail n p
+pub pin_of_past_shows_ago : (ids : IdSize) (w : HeapState) (ring : Buffer Undo) (place keep next : ℕ) (slots : List NumberedPin) (n : ℕ) (p : PinContents) → HoldsPast p w ring.items n → HasNoParts p → ShowsAgo (machine_of ids w ring place keep next slots).trail n p
 unfolding state_ago
 pin_of_past_shows_ago ids w ring place keep next slots n p h whole =
     let u = past_state w ring.items n in

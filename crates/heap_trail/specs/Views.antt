@@ -6,7 +6,7 @@ use Rattle.heap_class.specs.declared.Refusal.TheVariants.{NoPin}
 use Rattle.heap_class.specs.declared.Refusal.TheVariants.{Lost as IsLost}
 use Rattle.heap_world.specs.State.{HeapState}
 use Rattle.heap_pins.specs.Images.{image_of}
-use Rattle.heap_pins.specs.Pin.{PinContents, IsWhole, pin_image}
+use Rattle.heap_pins.specs.Pin.{PinContents, HasNoParts, pin_image}
 use Rattle.heap_pins.specs.View.{PinShown, ShowsSome}
 use Rattle.heap_trail.specs.declared.held.Held.{Held}
 use Rattle.heap_trail.specs.declared.held.Held.TheVariants.{Kept, Lost}
@@ -18,7 +18,7 @@ use Rattle.heap_trail.specs.Machine.{Machine}
 -- beside the current state the pin shows the image of the state of n steps ago, without parts
 pub record ShowsAgo (t : Trail) (n : ℕ) (p : PinContents) : Type 0 where
   pub shows : ShowsSome p t.current
-  pub whole : IsWhole p
+  pub whole : HasNoParts p
   pub image : pin_image p t.current ≡ image_of (state_ago n t)
 
 -- the view of a pin beside a machine's current state

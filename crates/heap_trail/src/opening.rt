@@ -1,7 +1,7 @@
 //! A pin on a past state.
 ghost use Rattle.std.specs.Prelude.{◌≡◌, ◌≤◌, length, IfOk, IfErr};
 ghost use Rattle.heap_class.specs.declared.Refusal.TheVariants.{NoMemory};
-ghost use Rattle.heap_pins.specs.Pin.{IsWhole};
+ghost use Rattle.heap_pins.specs.Pin.{HasNoParts};
 ghost use Rattle.heap_trail.specs.Records.{AreRecorded};
 ghost use Rattle.heap_trail.specs.Past.{HoldsPast};
 
@@ -22,7 +22,7 @@ pub(crate) fn past_pin(
     requires recorded { AreRecorded world.now records.now.items }
     requires retained { n ≤ length records.now.items }
     ensures held { IfOk result (λ p. HoldsPast p world.now records.now.items n) }
-    ensures whole { IfOk result (λ p. IsWhole p) }
+    ensures whole { IfOk result (λ p. HasNoParts p) }
     ensures refused { IfErr result (λ e. e ≡ NoMemory) }
 {
     let mut pin = Pin::open(alloc, world)?;

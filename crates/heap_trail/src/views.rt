@@ -1,7 +1,7 @@
 //! What pins show, lent to be read.
 ghost use Rattle.std.specs.Prelude.{◌≡◌, ◌≤◌, Some, IfOk, IfErr};
 ghost use Rattle.heap_class.specs.declared.Refusal.TheVariants.{NoMemory};
-ghost use Rattle.heap_pins.specs.View.{ShowsWhole};
+ghost use Rattle.heap_pins.specs.View.{ShowsWithoutParts};
 ghost use Rattle.heap_trail.specs.Pins.{pin_at};
 ghost use Rattle.heap_trail.specs.Trail.{retained};
 ghost use Rattle.heap_trail.specs.Views.{IsViewOf, ShowsAgo, view_beside, view_refusal};
@@ -25,7 +25,7 @@ impl Machine {
 
     /// Returns the view of a pin that `pin_ago` returned for this state. Takes no memory.
     pub fn view<'a>(&'a self, pin: &'a Pin) -> PinView<'a>
-        requires { ShowsWhole pin.now self.now.trail.current }
+        requires { ShowsWithoutParts pin.now self.now.trail.current }
         ensures { result ≡ view_beside self.now pin.now }
     {
         PinView::new(pin, &self.world, self.ids)

@@ -1,6 +1,6 @@
-use Rattle.std.proofs.Common.{◌≡◌, ◌/◌, ◌%◌, length, List, None, Some, true, false, nat_lt, sym, ap, ◌∙◌, arith}
+use Rattle.std.proofs.Common.{◌/◌, ◌%◌, length, true, false, sym, ap, ◌∙◌, arith}
 use Rattle.std.proofs.lemmas.Bool.{le-ltb, lt-ltb}
-use Rattle.heap_pins.specs.KeptCopies.{Overwritten, goes_by_part}
+use Rattle.heap_pins.specs.KeptCopies.{Overwritten}
 use Rattle.heap_pins.specs.Parts.{part_at}
 use Rattle.heap_pins.specs.Pin.{PinContents}
 use Rattle.heap_pins.proofs.KeptSteps.{word_by_copy_is_kept, word_by_new_part_is_kept, word_by_old_part_is_kept, written_word_is_of_object}

@@ -17,7 +17,7 @@ use Rattle.heap_world.proofs.NamedObjects.{object_named}
 use Rattle.heap_world.proofs.Registers.{names_of}
 use Rattle.heap_step.proofs.Ids.{ids_fit}
 use Rattle.hprof_text.specs.Image.{DumpedObject}
-use Rattle.hprof_text.specs.Fits.{FitsBytes, FitsId, WordsFit, ShowsWithoutParts}
+use Rattle.hprof_text.specs.Fits.{FitsBytes, FitsId, WordsFit, ShowsWhole}
 use Rattle.hprof_text.proofs.Fits.{small_number_fits_id, numbers_fit}
 use Rattle.heap_trail.specs.Laws.{DumpIsWhole}
 use Rattle.heap_pins.specs.Images.{dumped_objects, image_of}
@@ -92,7 +92,7 @@ module _ (ids : IdSize) (w : HeapState) (legal : IsLegal w) where
   shown : ObjRef × Object → DumpedObject
   shown p = record { id = id_of w.regions p.0; kind = p.1.kind; words = p.1.words }
 
-  pub shows_whole : ShowsWithoutParts ids (image_of w)
+  pub shows_whole : ShowsWhole ids (image_of w)
   unfolding image_of dumped_objects shown
   shows_whole = record {
     objects = All-map (λ (o : DumpedObject). FitsId ids o.id) shown (live_objects w.regions) (All-weaker (StandsLive w) (λ p. FitsId ids (id_of w.regions p.0)) (λ p s. id_fits p.0 p.1 s.0) (live_objects w.regions) all_live);

@@ -17,7 +17,7 @@ use Rattle.heap_trail.specs.declared.Action.TheVariants.{Step, Rewind, OpenPin, 
 use Rattle.heap_trail.specs.declared.Reply.{Reply}
 use Rattle.heap_trail.specs.declared.Reply.TheVariants.{Answered, Place, Part}
 use Rattle.hprof_text.specs.Image.{Image}
-use Rattle.hprof_text.specs.Fits.{HoldsWhole, ShowsWithoutParts}
+use Rattle.hprof_text.specs.Fits.{HoldsWhole, ShowsWhole}
 use Rattle.heap_pins.specs.Images.{image_of}
 use Rattle.heap_trail.specs.declared.Action.{Action}
 use Rattle.heap_trail.specs.Machine.{Machine, Allocation, acted, acted_under, machine_after, without_dumps}
@@ -85,7 +85,7 @@ KeepsImage m a pin =
 -- each number in the dump of a legal heap is below what the bytes that it has there hold: ids and words too
 abbrev pub DumpIsWhole : IdSize → HeapState → ℕ → Type 0
 DumpIsWhole ids w time =
-    IsLegal w → time < 2 ^ 64 → HoldsWhole ids (image_of w) time × ShowsWithoutParts ids (image_of w)
+    IsLegal w → time < 2 ^ 64 → HoldsWhole ids (image_of w) time × ShowsWhole ids (image_of w)
 
 -- a piece, asked for at this time, of the dump of some legal state
 abbrev pub IsPieceOfLegal : IdSize → ℕ → Piece → Type 0

@@ -22,9 +22,9 @@ use Rattle.heap_trail.specs.Past.{HoldsPast, past_state}
 use Rattle.heap_trail.specs.Views.{CanShow, IsViewBeside, IsViewOf, RefusesView, ShowsAgo, view_refusal}
 
 -- both hold of what an Ok has
-pub both_of_an_ok : {A E : Type 0} {P Q : A → Type 0} (r : Result A E) → IfOk r P → IfOk r Q → IfOk r (λ x. P x × Q x)
-both_of_an_ok (Ok a) p q = (p, q)
-both_of_an_ok (Err e) p q = tt
+pub both_of_an_ok : {A E : Type 0} (P Q : A → Type 0) (r : Result A E) → IfOk r P → IfOk r Q → IfOk r (λ x. P x × Q x)
+both_of_an_ok P Q (Ok a) p q = (p, q)
+both_of_an_ok P Q (Err e) p q = tt
 
 -- a pin that holds a state of the past shows its image
 pub pin_of_past_shows_ago : (ids : IdSize) (w : HeapState) (ring : Buffer Undo) (place keep next : ℕ) (slots : List NumberedPin) (n : ℕ) (p : PinContents) → HoldsPast p w ring.items n → HasNoParts p → ShowsAgo (machine_of ids w ring place keep next slots).trail n p

@@ -21,4 +21,4 @@ returns-clause-shown c =
     let i = c.self.inside in
     subst (λ (m : Machine). IfOk c.past_pin.result (λ p. ShowsAgo m.trail c.args.n p)) c.self.view_is
     (IfOk-weaker c.past_pin.result (λ p. HoldsPast p i.world i.records.items c.args.n × HasNoParts p) (λ p. ShowsAgo (machine_of i.ids i.world i.records i.place i.keep i.next i.pins.items).trail c.args.n p)
-    (λ p h. pin_of_past_shows_ago i.ids i.world i.records i.place i.keep i.next i.pins.items c.args.n p h.0 h.1) (both_of_an_ok c.past_pin.result c.past_pin.ensures.held c.past_pin.ensures.whole))
+    (λ p h. pin_of_past_shows_ago i.ids i.world i.records i.place i.keep i.next i.pins.items c.args.n p h.0 h.1) (both_of_an_ok (λ p. HoldsPast p i.world i.records.items c.args.n) HasNoParts c.past_pin.result c.past_pin.ensures.held c.past_pin.ensures.whole))

@@ -56,6 +56,7 @@ test: ## proves everything, tries wrong bodies, and tests and checks the program
 	@python3 checks/recording.py crates/heapdbg/out/heapdbg
 	@python3 checks/c_client.py crates/heapdbg/out/heapdbg
 	@python3 checks/importing.py crates/heapdbg/out/heapdbg crates/hprof_import/out/hprof_import
+	@python3 checks/visualvm crates/heapdbg/out/heapdbg
 	@python3 checks/installed.py crates/heapdbg/out/heapdbg crates/hprof_import/out/hprof_import
 	@python3 checks/package.py crates/heapdbg/out/heapdbg crates/hprof_import/out/hprof_import
 	@bash scripts/dist.sh passed crates/heapdbg/out/heapdbg crates/hprof_import/out/hprof_import

@@ -541,11 +541,12 @@ def wrong_undoing(program, library, pinned):
 
 def wrong_sweep(program, library):
     """Yields what goes otherwise than it may where a sweep finds no dead object beside a pin: it asks for no memory, and a pin on the state
-    before it for as much as one on the state after it. The first write to the region then makes three copies."""
+    before it for as much as one on the state after it. The first write to the region then makes one copy for all three pins: its box,
+    and the count of who holds it."""
     with Counted(program, library) as session:
         yield from taken_steps(session, words_of(LIVE), (2,))
         *cycle, after, before, put = [session.reply(line)[1] for line in words_of(SWEPT)]
-        if any(cycle) or after != before or put != 3:
+        if any(cycle) or after != before or put != 2:
             yield f"a sweep that finds no dead object: {cycle}, {after}, {before} and {put} requests"
 
 

@@ -14,7 +14,7 @@ from lemma_names import LEMMA, OF_FUNCTIONS, GIVEN, shared_names
 TOP = pathlib.Path(__file__).resolve().parent.parent
 CRATES = sorted(path.parent.parent for path in TOP.glob("crates/*/src/*") if path.name in ("lib.rt", "main.rt"))
 # Crates that no other one uses: tests, and an example.
-TESTS = "heap_tests", "hprof_tests"
+TESTS = "heap_tests", "hprof_tests", "dominator_tests"
 PROGRAMS = *TESTS, "embed_example"
 # A public function up to its body, which is empty if it is a law.
 PUBLIC = re.compile(r"(?ms)^( *)pub (?:const )?fn (\w+).*?(?:^\1(\{\}?)$| \{$)")

@@ -7,7 +7,7 @@ import pathlib
 import re
 import sys
 
-TESTS = ("heap_tests", "hprof_tests")
+TESTS = ("heap_tests", "hprof_tests", "dominator_tests")
 MAKES = re.compile(r"\b(NoMemory|Memory)\b|\(AllocError\)|\bAllocError\.|\bAllocFailed \{")
 PLACES = pathlib.Path(__file__).with_suffix(".txt")
 

@@ -3,6 +3,7 @@ pub mod PipeSteps
 pub mod FeedSteps
 pub mod DrainSteps
 pub mod CancellableSources
+pub mod StartSteps
 pub mod StreamEnds
 pub mod BatchFilling
 pub mod BatchStreams

@@ -1,5 +1,5 @@
 -- Both ends of a pipe together.
-use Rattle.std.proofs.Common.{◌≡◌, ◌≢◌, true, List, [], ◌∷◌, ◌++◌, Option, Some, None, refl, ap, sym, ◌∙◌, subst}
+use Rattle.std.proofs.Common.{◌≡◌, true, List, [], ◌∷◌, ◌++◌, Some, refl, ap, sym, ◌∙◌, subst}
 use mathlib.Core.List.{IsPrefix}
 use Rattle.std.specs.Prelude.{ℕ}
 use Rattle.hprof_text.specs.declared.Piece.{Piece}
@@ -15,7 +15,6 @@ use Rattle.dump_pipe.specs.declared.end_side.EndSide.TheVariants.{Sends, Gets}
 use Rattle.dump_pipe.specs.Pipes.{dump, list_of, both_of, HasOrder}
 use Rattle.dump_pipe.specs.Feeds.{IsFed}
 use Rattle.dump_pipe.specs.Drains.{AnswersDrain, IsDrained}
-use Rattle.dump_pipe.specs.Streams.{MayFeed}
 
 -- a whole dump that begins another is that dump
 dump_beginning_another_is_same : (parts given : List Piece) (e e2 : SourceEnd) (items : List Message) → dump parts e ++ items ≡ dump given e2 → (parts ≡ given) × (e ≡ e2)
@@ -27,10 +26,6 @@ dump_beginning_another_is_same (p ∷ ps) (q ∷ qs) e e2 items h =
     let tail : dump ps e ++ items ≡ dump qs e2 = cc in
     let rest = dump_beginning_another_is_same ps qs e e2 items tail in
     ((λ i. head i ∷ rest.0 i), rest.1)
-
-dump_messages_are_not_empty : (parts : List Piece) (e : SourceEnd) (items : List Message) → dump parts e ++ items ≢ []
-dump_messages_are_not_empty [] e items h = absurd cc
-dump_messages_are_not_empty (p ∷ ps) e items h = absurd cc
 
 pump_fits_what_was_given : (parts given : List Piece) (out : List ℕ) (e e2 : SourceEnd) (failures failures' : ℕ) (r : Pumped) → parts ≡ given → e ≡ e2 → (e2 ≡ Ended.Whole → ends given ≡ true) → AnswersDrain parts out e failures failures' r → FitsPump given out (Some e2) failures failures' r
 pump_fits_what_was_given parts given out e e2 failures failures' (Pumped.Done n) same is whole h = (h.0 ∙ ap joined same, whole (sym is ∙ h.1), ap Some (sym is ∙ h.1), h.2)
@@ -51,13 +46,11 @@ fed_and_drained_is_pumped a b w w' v1 v2 e r items f d order =
       fits = subst (λ x. FitsPump f.given d.out x w.failures w'.failures r) (sym f.ended) (pump_fits_what_was_given d.parts f.given d.out d.ended e w.failures w'.failures r same.0 same.1 f.whole d.answers);
     }
 
-pub fed_and_drained_is_streamed : (a b : Supply) (w w' : Outgoing) (v1 v2 v3 : EndSide) (fed : Option SourceEnd) (r : Pumped) (items : List Message) → MayFeed a b v1 fed → IsDrained [] v2 w w' r → v3 ≡ both_of v1 v2 → HasOrder v3 items → IsPumped a b w w' r
-fed_and_drained_is_streamed a b w w' v1 v2 v3 (Some e) r items f d is order = fed_and_drained_is_pumped a b w w' v1 v2 e r items f d (subst (λ u. HasOrder u items) is order)
-fed_and_drained_is_streamed a b w w' v1 v2 v3 None r items f d is order = absurd (dump_messages_are_not_empty d.parts d.ended items (ap (λ u. list_of u ++ items) (sym d.received) ∙ subst (λ u. HasOrder u items) is order ∙ ap list_of f.0))
+pub fed_and_drained_is_streamed : (a b : Supply) (w w' : Outgoing) (v1 v2 v3 : EndSide) (e : SourceEnd) (r : Pumped) (items : List Message) → IsFed a b v1 e → IsDrained [] v2 w w' r → v3 ≡ both_of v1 v2 → HasOrder v3 items → IsPumped a b w w' r
+fed_and_drained_is_streamed a b w w' v1 v2 v3 e r items f d is order = fed_and_drained_is_pumped a b w w' v1 v2 e r items f d (subst (λ u. HasOrder u items) is order)
 
-pub fed_side_is_sending : (a b : Supply) (v : EndSide) (fed : Option SourceEnd) → MayFeed a b v fed → v ≡ Sends (list_of v)
-fed_side_is_sending a b v (Some e) f = f.sent ∙ ap (λ u. Sends (list_of u)) (sym f.sent)
-fed_side_is_sending a b v None f = f.0 ∙ ap (λ u. Sends (list_of u)) (sym f.0)
+pub fed_side_is_sending : (a b : Supply) (v : EndSide) (e : SourceEnd) → IsFed a b v e → v ≡ Sends (list_of v)
+fed_side_is_sending a b v e f = f.sent ∙ ap (λ u. Sends (list_of u)) (sym f.sent)
 
 pub drained_side_is_receiving : (v : EndSide) (w w' : Outgoing) (r : Pumped) → IsDrained [] v w w' r → v ≡ Gets (list_of v)
 drained_side_is_receiving v w w' r d = d.received ∙ ap (λ u. Gets (list_of u)) (sym d.received)

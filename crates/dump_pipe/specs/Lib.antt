@@ -3,6 +3,7 @@ pub mod Seats
 pub mod Pipes
 pub mod Feeds
 pub mod Drains
+pub mod Starts
 pub mod Streams
 pub mod Cancellables
 pub mod Batches

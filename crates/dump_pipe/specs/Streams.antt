@@ -33,11 +33,11 @@ abbrev pub MayDrain : EndSide → Outgoing → Outgoing → Option Pumped → Ty
 MayDrain v w w' (Some r) = IsDrained [] v w w' r
 MayDrain v w w' None = (v ≡ Gets []) × (w' ≡ w)
 
--- the pipe was drained of what was sent, or neither of its ends did anything
+-- the source was fed and the pipe was drained, or neither end did anything
 abbrev pub MayStream : Supply → Supply → EndSide → EndSide → Outgoing → Outgoing → Option Pumped
     → Type 0
 MayStream a b v1 v2 w w' (Some r) =
-    ((fed : Option SourceEnd) × MayFeed a b v1 fed) × IsDrained [] v2 w w' r
+    ((e : SourceEnd) × IsFed a b v1 e) × IsDrained [] v2 w w' r
 MayStream a b v1 v2 w w' None = (b ≡ a) × (w' ≡ w)
 
 -- the bytes that a drain put out, if there was one

@@ -80,9 +80,9 @@ entry_by_slot_is_lower image nodes entries queue k f e next q b is =
 -- a way back goes on from what an entry keeps, and these steps, the last first, lead on from there
 pub record GoesOnFrom (image : Image) (queue : List Found) (index : ℕ) (e : Entry) (hops : List Hop) : Type 0 where
   pub here : Found
-  pub kept : entry_of object_viewed_at_place ≡ e
-  pub on : GoesOn queue index object_viewed_at_place (slots_of hops)
-  pub ids : AreHops image object_viewed_at_place.id (reverse hops)
+  pub kept : entry_of here ≡ e
+  pub on : GoesOn queue index here (slots_of hops)
+  pub ids : AreHops image here.id (reverse hops)
 
 -- it begins there
 pub goes_on_first : (image : Image) (queue : List Found) (index : ℕ) (e : Entry) (f : Found) → slice_get queue index ≡ Some f → entry_of f ≡ e → GoesOnFrom image queue index e []

@@ -13,8 +13,8 @@ use Rattle.clap.specs.Walk.{answers_to, stop_after}
 use Rattle.clap.specs.Words.{Row, Text, first_of, subcommand_of}
 use Rattle.heap_class.specs.declared.IdSize.{IdSize}
 use Rattle.heap_class.specs.declared.IdSize.TheVariants.{Eight}
-use Rattle.heap_world.specs.Limits.{mutator_limit}
-use Rattle.heapdbg_options.specs.CommandLine.{AreNumbersOf, AreSettingsWithin, HasDefaults, IsTask, ask_in, idle_in, idle_limit, idle_of, is_guarded, has_secret, stays_in, stays_of, area_after, area_default, area_in, draw_in, dump_origin, dumps_in, dumps_of, dumps_with, page_beside, page_in, page_of, page_with, explore_in, explore_with, is_dump, is_lines, is_pair, has_second, origin_in, origin_of, own_page, own_task, runs_dump, runs_lines, runs_pair, second_task, flag_in, fetch_in, heapdbg_line, id_size_in, id_size_of, is_given, is_task, IsOther, IsThird, keep_after, keep_default, keep_in, most_area, most_kept, most_regions, most_sessions, number_in, number_or, other_port, port_in, port_limit, questions_in, quiet_in, regions_in, rolls_in, save_in, serve_in, serve_with, sessions_in, sessions_of, settings_in, settings_over, settings_under, settings_with, target_in, task_in, third_port, time_limit, option_value, wide_in, workers_in, workers_of, counted_in, option_size, size_or, size_with, text_before, times_in, has_dump, regions_after, regions_default, run_in, usual_keep, wide_default, with_area_in}
+use Rattle.heapdbg_options.specs.CommandLine.{AreNumbersOf, AreSettingsWithin, HasDefaults, IsTask, ask_in, idle_in, idle_of, is_guarded, has_secret, stays_in, stays_of, area_after, area_default, area_in, draw_in, dump_origin, dumps_in, dumps_of, dumps_with, page_beside, page_in, page_of, page_with, explore_in, explore_with, is_dump, is_lines, is_pair, has_second, origin_in, origin_of, own_page, own_task, runs_dump, runs_lines, runs_pair, second_task, flag_in, fetch_in, heapdbg_line, id_size_in, id_size_of, is_given, is_task, IsOther, IsThird, keep_after, keep_default, keep_in, most_area, number_in, number_or, other_port, port_in, questions_in, quiet_in, regions_in, rolls_in, save_in, serve_in, serve_with, sessions_in, sessions_of, settings_in, settings_over, settings_under, settings_with, target_in, task_in, third_port, option_value, wide_in, workers_in, workers_of, counted_in, option_size, size_or, size_with, text_before, times_in, has_dump, regions_after, regions_default, run_in, usual_keep, wide_default, with_area_in, value_in}
+use Rattle.heapdbg_options.specs.Numbers.{Numbers, flag_numbers, id_numbers, idle_numbers, most_kept, most_regions, mutator_numbers, port_limit, session_numbers, time_numbers}
 use Rattle.heapdbg_options.specs.declared.settings.Settings.{Settings}
 use Rattle.heapdbg_options.specs.declared.settings.Origin.{Origin}
 use Rattle.heapdbg_options.specs.declared.settings.Origin.TheVariants.{Fresh, Lines, Dump, Dumps}
@@ -86,10 +86,12 @@ size_or_default_within_bounds : (default least most : ℕ) (given : Option Text)
 size_or_default_within_bounds default least most None n low high e = let same : default ≡ n = cc in rw (← same) (low, high)
 size_or_default_within_bounds default least most (Some text) n low high e = size_setting_within_bounds least most text (text_before (codes "k") text) (text_before (codes "m") text) n e
 
-number_or_default_within_bounds : (default least most : ℕ) (given : Option Text) (n : ℕ) → least ≤ default → default ≤ most
-    → number_or default least most given ≡ Some n → (least ≤ n) × (n ≤ most)
-number_or_default_within_bounds default least most None n low high e = let same : default ≡ n = cc in rw (← same) (low, high)
-number_or_default_within_bounds default least most (Some text) n low high e = number_setting_within_bounds least most text n e
+value_within_bounds : (n : Numbers) (rows : List Row) (v : ℕ) → n.least ≤ n.default → n.default ≤ n.most → value_in n rows ≡ Some v → (n.least ≤ v) × (v ≤ n.most)
+value_within_bounds n rows v low high e = go (first_of n.name rows) e
+  where
+    go : (given : Option Text) → number_or n.default n.least n.most given ≡ Some v → (n.least ≤ v) × (v ≤ n.most)
+    go None found = let same : n.default ≡ v = cc in rw (← same) (low, high)
+    go (Some text) found = number_setting_within_bounds n.least n.most text v found
 
 -- ---- settings
 
@@ -98,9 +100,9 @@ pub record AreRead (rows : List Row) (s : Settings) : Type 0 where
   pub wide : wide_in rows ≡ Some s.wide
   pub regions : regions_in s.task s.wide rows ≡ Some s.regions
   pub area : area_in s.task s.wide s.regions rows ≡ Some s.area
-  pub mutators : option_value (codes "mutators") 2 1 mutator_limit rows ≡ Some s.mutators
+  pub mutators : value_in mutator_numbers rows ≡ Some s.mutators
   pub keep : keep_in s.task s.wide rows ≡ Some s.keep
-  pub time : option_value (codes "time") 0 0 time_limit rows ≡ Some s.time
+  pub time : value_in time_numbers rows ≡ Some s.time
   pub ids : id_size_in rows ≡ Some s.ids
   pub questions : questions_in rows ≡ Some s.questions
   pub rolls : rolls_in rows ≡ Some s.rolls
@@ -117,11 +119,17 @@ settings_keep_all_given task w u (Some r) (Some m) (Some k) (Some t) (Some i) No
 settings_keep_all_given task w u (Some r) (Some m) (Some k) (Some t) (Some i) (Some q) None s e = cc
 settings_keep_all_given task w u (Some r) (Some m) (Some k) (Some t) (Some i) (Some q) (Some o) s e = (cc, cc, cc, cc, cc, cc, cc, cc, cc, cc)
 
+-- the settings over a heap that is wide, or isn't, have what the rows tell
+pub settings_have_what_rows_tell : (task : Task) (rows : List Row) (w u : Bool) (s : Settings) → settings_over task rows w u ≡ Some s
+    → (s.task ≡ task) × (w ≡ s.wide) × (u ≡ s.quiet) × (regions_in task w rows ≡ Some s.regions) × (value_in mutator_numbers rows ≡ Some s.mutators) × (keep_in task w rows ≡ Some s.keep) × (value_in time_numbers rows ≡ Some s.time) × (id_size_in rows ≡ Some s.ids)
+    × (questions_in rows ≡ Some s.questions) × (rolls_in rows ≡ Some s.rolls)
+settings_have_what_rows_tell task rows w u s found = settings_keep_all_given task w u (regions_in task w rows) (value_in mutator_numbers rows) (keep_in task w rows) (value_in time_numbers rows) (id_size_in rows) (questions_in rows) (rolls_in rows) s found
+
 -- the settings over a heap that is wide, or isn't, with the area that the rows tell, are those of the rows
 settings_with_area_are_read : (task : Task) (rows : List Row) (w u : Bool) (s : Settings) (area : ℕ) → wide_in rows ≡ Some w → quiet_in rows ≡ Some u → settings_over task rows w u ≡ Some s → area_in s.task s.wide s.regions rows ≡ Some area
     → (s.task ≡ task) × AreRead rows (record s { area = area })
 settings_with_area_are_read task rows w u s area wide quiet found told =
-    let there = settings_keep_all_given task w u (regions_in task w rows) (option_value (codes "mutators") 2 1 mutator_limit rows) (keep_in task w rows) (option_value (codes "time") 0 0 time_limit rows) (id_size_in rows) (questions_in rows) (rolls_in rows) s found in
+    let there = settings_have_what_rows_tell task rows w u s found in
     let same : w ≡ s.wide = there.1 in (
       there.0,
       record {
@@ -150,7 +158,7 @@ settings_are_read_from_rows task rows w u base s wide quiet found told = go (are
 -- the settings without an area tell what its limit hangs on
 pub settings_tell_regions : (task : Task) (rows : List Row) (w u : Bool) (s : Settings) → wide_in rows ≡ Some w → settings_over task rows w u ≡ Some s → (wide_in rows ≡ Some s.wide) × (regions_in s.task s.wide rows ≡ Some s.regions)
 settings_tell_regions task rows w u s wide found =
-    let there = settings_keep_all_given task w u (regions_in task w rows) (option_value (codes "mutators") 2 1 mutator_limit rows) (keep_in task w rows) (option_value (codes "time") 0 0 time_limit rows) (id_size_in rows) (questions_in rows) (rolls_in rows) s found in
+    let there = settings_have_what_rows_tell task rows w u s found in
     let same : w ≡ s.wide = there.1 in (
       wide ∙ ap (λ b. Some b) same,
       ap (λ t. regions_in t s.wide rows) there.0 ∙ (ap (λ b. regions_in task b rows) (sym same) ∙ there.3),
@@ -262,17 +270,17 @@ default_area_within task w r = area_after_within (origin_of task) w r
 area_within : (task : Task) (w : Bool) (rows : List Row) (r a : ℕ) → area_in task w r rows ≡ Some a → a ≤ most_area w r
 area_within task w rows r a e = (size_or_default_within_bounds (area_default task w r) 0 (most_area w r) (first_of (codes "area") rows) a (omega arith) (default_area_within task w r) e).1
 
-numbers_of_heap_within_bounds : (task : Task) (w : Bool) (rows : List Row) (r m k : ℕ) → regions_in task w rows ≡ Some r → option_value (codes "mutators") 2 1 mutator_limit rows ≡ Some m → keep_in task w rows ≡ Some k → AreNumbersOf w r m k
+numbers_of_heap_within_bounds : (task : Task) (w : Bool) (rows : List Row) (r m k : ℕ) → regions_in task w rows ≡ Some r → value_in mutator_numbers rows ≡ Some m → keep_in task w rows ≡ Some k → AreNumbersOf w r m k
 numbers_of_heap_within_bounds task false rows r m k regions mutators keep =
     record {
       regions_within = size_or_default_within_bounds (regions_default task false) 1 (most_regions false) (first_of (codes "regions") rows) r (default_regions_within task false).0 (default_regions_within task false).1 regions;
-      mutators_within = number_or_default_within_bounds 2 1 mutator_limit (first_of (codes "mutators") rows) m (omega arith) (omega arith) mutators;
+      mutators_within = value_within_bounds mutator_numbers rows m (omega arith) (omega arith) mutators;
       keep_within = size_or_default_within_bounds (keep_default task false) 1 (most_kept false) (first_of (codes "keep") rows) k (default_within task false).0 (default_within task false).1 keep;
     }
 numbers_of_heap_within_bounds task true rows r m k regions mutators keep =
     record {
       regions_within = size_or_default_within_bounds (regions_default task true) 1 (most_regions true) (first_of (codes "regions") rows) r (default_regions_within task true).0 (default_regions_within task true).1 regions;
-      mutators_within = number_or_default_within_bounds 2 1 mutator_limit (first_of (codes "mutators") rows) m (omega arith) (omega arith) mutators;
+      mutators_within = value_within_bounds mutator_numbers rows m (omega arith) (omega arith) mutators;
       keep_within = size_or_default_within_bounds (keep_default task true) 1 (most_kept true) (first_of (codes "keep") rows) k (default_within task true).0 (default_within task true).1 keep;
     }
 
@@ -319,9 +327,9 @@ page_within port dumps None page e = let same : None ≡ page = cc in subst (IsT
 page_within port dumps (Some text) page e = third_port_is_legal port dumps (number_in 1 port_limit text) page (λ g is. number_setting_within_bounds 1 port_limit text g is) e
 
 -- seconds of an option whose default is none
-idle_within : (given : Option Text) (n : ℕ) → number_or 0 1 idle_limit given ≡ Some n → n ≤ idle_limit
+idle_within : (given : Option Text) (n : ℕ) → number_or idle_numbers.default idle_numbers.least idle_numbers.most given ≡ Some n → n ≤ idle_numbers.most
 idle_within None n e = let same : 0 ≡ n = cc in rw (← same) (omega arith)
-idle_within (Some text) n e = (number_setting_within_bounds 1 idle_limit text n e).1
+idle_within (Some text) n e = (number_setting_within_bounds idle_numbers.least idle_numbers.most text n e).1
 
 -- a served heap has what its options say
 pub record IsServeOf (p n w : Option ℕ) (d g : Option (Option ℕ)) (i : Option ℕ) (y : Option Bool) (x : Bool) (o : Origin) (task : Task) : Type 0 where
@@ -387,8 +395,8 @@ serve_within rows task e =
     let served = serve_rows_make_task rows task e in
     let service = served.service in
     let ports = port_within (first_of (codes "port") rows) service.port served.port in
-    let counts = number_or_default_within_bounds 1 1 most_sessions (first_of (codes "sessions") rows) service.sessions (omega arith) (omega arith) served.sessions in
-    let tended = number_or_default_within_bounds 0 0 1 (first_of (codes "workers") rows) service.workers (omega arith) (omega arith) served.workers in
+    let counts = value_within_bounds session_numbers rows service.sessions (omega arith) (omega arith) served.sessions in
+    let tended = value_within_bounds (flag_numbers (codes "workers")) rows service.workers (omega arith) (omega arith) served.workers in
     subst IsTask (sym served.is) (
       ports.0,
       ports.1,
@@ -540,12 +548,12 @@ unnamed_option_has_no_row name words f all is named other =
     let after = subcommand_tail_lacks_name name (built heapdbg_line).top.rules (names_of (built heapdbg_line)) (argument_words heapdbg_line words) (option_not_named_later name words other) in
     entered_command_lacks_option name (stop_after (built heapdbg_line).top.rules (names_of (built heapdbg_line)) (argument_words heapdbg_line words)) f all after is named
 
-ungiven_number_is_default : (name : Text) (default least most : ℕ) (words : List Text) (f : Text × List Row) (n : ℕ)
-    → list_all (is_free_command name) (built heapdbg_line).subs ≡ true → subcommand_of heapdbg_line words ≡ Some f → is_task f.0 ≡ true
-    → option_value name default least most f.1 ≡ Some n → is_given name words ≡ false → n ≡ default
-ungiven_number_is_default name default least most words f n all is named read other =
-    let none = unnamed_option_has_no_row name words f all is named other in
-    let same : Some default ≡ Some n = subst (λ o. number_or default least most o ≡ Some n) none read in
+ungiven_number_is_default : (n : Numbers) (words : List Text) (f : Text × List Row) (v : ℕ)
+    → list_all (is_free_command n.name) (built heapdbg_line).subs ≡ true → subcommand_of heapdbg_line words ≡ Some f → is_task f.0 ≡ true
+    → value_in n f.1 ≡ Some v → is_given n.name words ≡ false → v ≡ n.default
+ungiven_number_is_default n words f v all is named read other =
+    let none = unnamed_option_has_no_row n.name words f all is named other in
+    let same : Some n.default ≡ Some v = subst (λ o. number_or n.default n.least n.most o ≡ Some v) none read in
     cc
 
 ungiven_size_is_default : (name : Text) (default least most : ℕ) (words : List Text) (f : Text × List Row) (n : ℕ)
@@ -705,24 +713,24 @@ no_secret_given_unguarded rows none = ungiven_file_is_unread (first_of (codes "s
 -- identifiers of which no word tells the size have 8 bytes
 default_size : (words : List Text) (f : Text × List Row) (x : IdSize) → subcommand_of heapdbg_line words ≡ Some f → is_task f.0 ≡ true
     → id_size_in f.1 ≡ Some x → is_given (codes "ids") words ≡ false → x ≡ Eight
-default_size words f x is named read other = go (option_value (codes "ids") 8 4 8 f.1) refl read
+default_size words f x is named read other = go (value_in id_numbers f.1) refl read
   where
-    go : (o : Option ℕ) → option_value (codes "ids") 8 4 8 f.1 ≡ o → option_and_then id_size_of o ≡ Some x → x ≡ Eight
+    go : (o : Option ℕ) → value_in id_numbers f.1 ≡ o → option_and_then id_size_of o ≡ Some x → x ≡ Eight
     go None e sized = cc
     go (Some bytes) e sized =
-        let eight : bytes ≡ 8 = ungiven_number_is_default (codes "ids") 8 4 8 words f bytes refl is named e other in
+        let eight : bytes ≡ 8 = ungiven_number_is_default id_numbers words f bytes refl is named e other in
         let same : Some Eight ≡ Some x = subst (λ n. id_size_of n ≡ Some x) eight sized in
         cc
 
 -- an option that no word tells is not given as 1
 default_flag : (flag : Text) (words : List Text) (f : Text × List Row) (x : Bool) → list_all (is_free_command flag) (built heapdbg_line).subs ≡ true → subcommand_of heapdbg_line words ≡ Some f → is_task f.0 ≡ true
     → flag_in flag f.1 ≡ Some x → is_given flag words ≡ false → x ≡ false
-default_flag flag words f x free is named read other = go (option_value flag 0 0 1 f.1) refl read
+default_flag flag words f x free is named read other = go (value_in (flag_numbers flag) f.1) refl read
   where
-    go : (o : Option ℕ) → option_value flag 0 0 1 f.1 ≡ o → option_map (λ number. number == 1) o ≡ Some x → x ≡ false
+    go : (o : Option ℕ) → value_in (flag_numbers flag) f.1 ≡ o → option_map (λ number. number == 1) o ≡ Some x → x ≡ false
     go None e h = cc
     go (Some n) e h =
-        let zero_is : n ≡ 0 = ungiven_number_is_default flag 0 0 1 words f n free is named e other in
+        let zero_is : n ≡ 0 = ungiven_number_is_default (flag_numbers flag) words f n free is named e other in
         let same : Some false ≡ Some x = subst (λ k. option_map (λ number. number == 1) (Some k) ≡ Some x) zero_is h in
         cc
 
@@ -741,9 +749,9 @@ defaults_of words s e =
     record {
       regions = ungiven_size_is_default (codes "regions") (regions_default s.task s.wide) 1 (most_regions s.wide) words asked.found s.regions refl asked.is asked.named asked.read.regions;
       area = ungiven_size_is_default (codes "area") (area_default s.task s.wide s.regions) 0 (most_area s.wide s.regions) words asked.found s.area refl asked.is asked.named asked.read.area;
-      mutators = ungiven_number_is_default (codes "mutators") 2 1 mutator_limit words asked.found s.mutators refl asked.is asked.named asked.read.mutators;
+      mutators = ungiven_number_is_default mutator_numbers words asked.found s.mutators refl asked.is asked.named asked.read.mutators;
       keep = ungiven_size_is_default (codes "keep") (keep_default s.task s.wide) 1 (most_kept s.wide) words asked.found s.keep refl asked.is asked.named asked.read.keep;
-      time = ungiven_number_is_default (codes "time") 0 0 time_limit words asked.found s.time refl asked.is asked.named asked.read.time;
+      time = ungiven_number_is_default time_numbers words asked.found s.time refl asked.is asked.named asked.read.time;
       ids = default_size words asked.found s.ids asked.is asked.named asked.read.ids;
       questions = default_flag (codes "questions") words asked.found s.questions refl asked.is asked.named asked.read.questions;
       rolls = default_flag (codes "roll") words asked.found s.rolls refl asked.is asked.named asked.read.rolls;
@@ -751,10 +759,10 @@ defaults_of words s e =
       wide = λ other undumped. default_wide words asked.found s.wide asked.is asked.named asked.read.wide other undumped;
       sessions = λ other. each_task_has_property (λ t. sessions_of t ≡ 1) (bytes_eq name (codes "run")) (bytes_eq name (codes "explore")) (bytes_eq name (codes "draw")) (bytes_eq name (codes "save")) (bytes_eq name (codes "serve")) (bytes_eq name (codes "ask")) (bytes_eq name (codes "fetch")) rows s.task
           refl (λ origin p is at. refl) refl (λ target. refl) (λ port. refl) (λ port. refl)
-          (λ is. let served = serve_rows_make_task rows s.task is in by_service sessions_of rows s.task served 1 (ungiven_number_is_default (codes "sessions") 1 1 most_sessions words asked.found served.service.sessions refl asked.is asked.named served.sessions other)) asked.task;
+          (λ is. let served = serve_rows_make_task rows s.task is in by_service sessions_of rows s.task served 1 (ungiven_number_is_default session_numbers words asked.found served.service.sessions refl asked.is asked.named served.sessions other)) asked.task;
       workers = λ other. each_task_has_property (λ t. workers_of t ≡ 0) (bytes_eq name (codes "run")) (bytes_eq name (codes "explore")) (bytes_eq name (codes "draw")) (bytes_eq name (codes "save")) (bytes_eq name (codes "serve")) (bytes_eq name (codes "ask")) (bytes_eq name (codes "fetch")) rows s.task
           refl (λ origin p is at. refl) refl (λ target. refl) (λ port. refl) (λ port. refl)
-          (λ is. let served = serve_rows_make_task rows s.task is in by_service workers_of rows s.task served 0 (ungiven_number_is_default (codes "workers") 0 0 1 words asked.found served.service.workers refl asked.is asked.named served.workers other)) asked.task;
+          (λ is. let served = serve_rows_make_task rows s.task is in by_service workers_of rows s.task served 0 (ungiven_number_is_default (flag_numbers (codes "workers")) words asked.found served.service.workers refl asked.is asked.named served.workers other)) asked.task;
       dumps = λ other. each_task_has_property (λ t. dumps_of t ≡ None) (bytes_eq name (codes "run")) (bytes_eq name (codes "explore")) (bytes_eq name (codes "draw")) (bytes_eq name (codes "save")) (bytes_eq name (codes "serve")) (bytes_eq name (codes "ask")) (bytes_eq name (codes "fetch")) rows s.task
           refl (λ origin p is at. refl) refl (λ target. refl) (λ port. refl) (λ port. refl)
           (λ is. default_dumps rows s.task (unnamed_option_has_no_row (codes "dumps") words asked.found refl asked.is asked.named other) is) asked.task;
@@ -772,7 +780,7 @@ defaults_of words s e =
           (λ is. let served = serve_rows_make_task rows s.task is in by_service runs_pair rows s.task served false (ap is_pair (sym served.origin) ∙ session_of_a_dump_is_no_pair (has_dump rows))) asked.task;
       idle = λ other. each_task_has_property (λ t. idle_of t ≡ 0) (bytes_eq name (codes "run")) (bytes_eq name (codes "explore")) (bytes_eq name (codes "draw")) (bytes_eq name (codes "save")) (bytes_eq name (codes "serve")) (bytes_eq name (codes "ask")) (bytes_eq name (codes "fetch")) rows s.task
           refl (λ origin p is at. refl) refl (λ target. refl) (λ port. refl) (λ port. refl)
-          (λ is. let served = serve_rows_make_task rows s.task is in by_service idle_of rows s.task served 0 (ungiven_number_is_default (codes "idle") 0 1 idle_limit words asked.found served.service.idle refl asked.is asked.named served.idle other)) asked.task;
+          (λ is. let served = serve_rows_make_task rows s.task is in by_service idle_of rows s.task served 0 (ungiven_number_is_default idle_numbers words asked.found served.service.idle refl asked.is asked.named served.idle other)) asked.task;
       stays = λ other. each_task_has_property (λ t. stays_of t ≡ false) (bytes_eq name (codes "run")) (bytes_eq name (codes "explore")) (bytes_eq name (codes "draw")) (bytes_eq name (codes "save")) (bytes_eq name (codes "serve")) (bytes_eq name (codes "ask")) (bytes_eq name (codes "fetch")) rows s.task
           refl (λ origin p is at. refl) refl (λ target. refl) (λ port. refl) (λ port. refl)
           (λ is. let served = serve_rows_make_task rows s.task is in by_service stays_of rows s.task served false (default_flag (codes "stay") words asked.found served.service.stays refl asked.is asked.named served.stays other)) asked.task;

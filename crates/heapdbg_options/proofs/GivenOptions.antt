@@ -1,5 +1,5 @@
 -- What the options tell, and the words.
-use Rattle.std.proofs.Common.{◌≡◌, ℕ, Bool, false, inl, inr, refl, ap, sym, ◌∙◌, subst, true, List, Option, Some, None, Result, Ok, Err, IfOk, codes}
+use Rattle.std.proofs.Common.{◌≡◌, ℕ, Bool, false, refl, ap, sym, ◌∙◌, subst, true, List, Option, Some, None, Result, Ok, Err, IfOk, codes}
 use Rattle.std.specs.Borrow.{Bor}
 use Rattle.std.specs.Prelude.{IfSome, is_some, option_and_then, option_map}
 use Rattle.clap.proofs.WalkLemmas.{first_value-rows}
@@ -8,16 +8,13 @@ use Rattle.clap.specs.Words.{App, FailsBy, HasMatchesOf, Row, Text, fault_of, fi
 use Rattle.clap.specs.declared.error.Error.{Error}
 use Rattle.clap.specs.declared.parser.matches.ArgMatches.{ArgMatches}
 use Rattle.clap.specs.declared.parser.matches.Found.{Found}
-use Rattle.heapdbg_options.specs.CommandLine.{area_default, area_in, explore_in, explore_with, has_second, has_secret, heapdbg_line, id_size_in, keep_default, keep_in, most_area, most_kept, number_in, option_value, own_page, path_of, port_limit, questions_in, regions_in, rolls_in, second_task, settings_over, settings_with, size_or, time_limit, wide_in, with_area_in}
-use Rattle.heap_class.specs.declared.IdSize.{IdSize}
-use Rattle.heap_world.specs.Limits.{mutator_limit}
-use Rattle.heapdbg_options.specs.Refusals.{IsExploreMistake, IsExploreOrMistake, IsMistakeIn, IsNoSize, IsOutside, area_mistake, keep_mistake, IsTargetMistake, IsTaskOrMistake, IsValueOrMistake}
+use Rattle.heapdbg_options.specs.CommandLine.{explore_in, explore_with, has_second, has_secret, heapdbg_line, own_page, path_of, second_task}
+use Rattle.heapdbg_options.specs.Refusals.{IsExploreOrMistake, IsReadOrMistake, IsValueOrMistake, said_of, second_rule}
 use Rattle.heapdbg_options.specs.declared.refusal.Mistake.{Mistake}
-use Rattle.heapdbg_options.specs.declared.refusal.Mistake.TheVariants.{Second}
 use Rattle.heapdbg_options.specs.declared.settings.Origin.TheVariants.{Dump, Dumps}
-use Rattle.heapdbg_options.specs.declared.settings.Settings.{Settings}
 use Rattle.heapdbg_options.specs.declared.settings.Task.{Task}
 use Rattle.heapdbg_options.specs.declared.settings.Task.TheVariants.{Explore}
+use Rattle.heapdbg_options.proofs.Mistakes.{explore_mistake_is_in_rows, second_mistake_is_in_rows}
 
 -- ---- what is told of options
 
@@ -27,36 +24,20 @@ pub two_options_given_as_rows : {A : Type 0} (F : Option Text → Option Text �
 two_options_given_as_rows F found name second one other e f = λ i. F ((e ∙ first_value-rows found name) i) ((f ∙ first_value-rows found second) i)
 
 -- so is a mistake in them
-pub given_mistake : (IsMade : Mistake → Option Text → Option Text → Type 0) (m : Mistake) (found : Found) (name second : Text) (one other : Option (Bor Text)) → option_map (λ s. s.now) one ≡ first_value found name → option_map (λ s. s.now) other ≡ first_value found second
-    → IsMade m (option_map (λ s. s.now) one) (option_map (λ s. s.now) other) → IsMade m (first_of name (rows_of found)) (first_of second (rows_of found))
-given_mistake IsMade m found name second one other e f h =
-    subst (λ o. IsMade m o (first_of second (rows_of found))) (e ∙ first_value-rows found name)
-    (subst (λ o. IsMade m (option_map (λ s. s.now) one) o) (f ∙ first_value-rows found second) h)
+pub given_mistake : (IsMade : Text → Option Text → Option Text → Type 0) (said : Text) (found : Found) (name second : Text) (one other : Option (Bor Text)) → option_map (λ s. s.now) one ≡ first_value found name → option_map (λ s. s.now) other ≡ first_value found second
+    → IsMade said (option_map (λ s. s.now) one) (option_map (λ s. s.now) other) → IsMade said (first_of name (rows_of found)) (first_of second (rows_of found))
+given_mistake IsMade said found name second one other e f h =
+    subst (λ o. IsMade said o (first_of second (rows_of found))) (e ∙ first_value-rows found name)
+    (subst (λ o. IsMade said (option_map (λ s. s.now) one) o) (f ∙ first_value-rows found second) h)
 
 -- the text of an option is that of its row
 pub text_of_row : (found : Found) (name : Text) (given : Option Text) → given ≡ first_value found name → first_of name (rows_of found) ≡ given
 text_of_row found name given e = sym (first_value-rows found name) ∙ sym e
 
--- a mistake in the two places is one of the options
-pub target_mistake_is_in_rows : (m : Mistake) (rows : List Row) → IsTargetMistake m (first_of (codes "out") rows) (first_of (codes "to") rows) → IsMistakeIn m rows
-target_mistake_is_in_rows m rows (inl h) = subst (λ x. IsMistakeIn x rows) (sym h.0) (inl (refl, h.1))
-target_mistake_is_in_rows m rows (inr h) = subst (λ x. IsMistakeIn x rows) (sym h.0) (inr (refl, h.1))
-
-outside_number_is_none : (least most : ℕ) (given : Option Text) → IsOutside least most given → option_and_then (number_in least most) given ≡ None
-outside_number_is_none least most None h = absurd h
-outside_number_is_none least most (Some text) h = h
-
 -- an option is given as its row is there
 pub option_given_as_its_row : (found : Found) (name : Text) (given : Option (Bor Text)) → option_map (λ s. s.now) given ≡ first_value found name → is_some given ≡ is_some (first_of name (rows_of found))
 option_given_as_its_row found name None e = ap is_some (e ∙ first_value-rows found name)
 option_given_as_its_row found name (Some text) e = ap is_some (e ∙ first_value-rows found name)
-
-source_mistake_is_in_rows : (m : Mistake) (rows : List Row) → IsExploreMistake m (first_of (codes "from") rows) (first_of (codes "hprof") rows) (first_of (codes "page") rows) (first_of (codes "port") rows) (has_secret rows) → IsMistakeIn m rows
-source_mistake_is_in_rows m rows (inl h) = subst (λ x. IsMistakeIn x rows) (sym h.0) (inl (refl, h.1, h.2))
-source_mistake_is_in_rows m rows (inr (inl h)) = subst (λ x. IsMistakeIn x rows) (sym h.0) (outside_number_is_none 1 port_limit (first_of (codes "port") rows) h.1)
-source_mistake_is_in_rows m rows (inr (inr (inl h))) = subst (λ x. IsMistakeIn x rows) (sym h.0) h.1
-source_mistake_is_in_rows m rows (inr (inr (inr (inl h)))) = subst (λ x. IsMistakeIn x rows) (sym h.0) (inr (inr (inr (inl (refl, h.1, h.2)))))
-source_mistake_is_in_rows m rows (inr (inr (inr (inr h)))) = subst (λ x. IsMistakeIn x rows) (sym h.0) (h.1, h.2)
 
 -- the task of the options of `explore`, whether or not a second dump is given
 abbrev pub first_task_in : List Row → Option Task
@@ -81,8 +62,8 @@ no_second_where_no_first None (Some path) page None false task e none = go (own_
 
 -- the task after a second dump, or the mistake in that, is that of the rows
 pub second_task_from_rows : (rows : List Row) (task : Task) (second : Bool) (result : Result Task Mistake) → first_task_in rows ≡ Some task → second ≡ has_second rows
-    → IsValueOrMistake (second_task second task) (λ m. (m ≡ Second) × (second ≡ true)) result → IsTaskOrMistake explore_in rows result
-second_task_from_rows rows task second result first is h = go result (subst (λ b. IsValueOrMistake (second_task b task) (λ m. (m ≡ Second) × (b ≡ true)) result) is h)
+    → IsValueOrMistake (second_task second task) (λ said. (said ≡ second_rule) × (second ≡ true)) result → IsReadOrMistake explore_in rows result
+second_task_from_rows rows task second result first is h = go result (subst (λ b. IsValueOrMistake (second_task b task) (λ said. (said ≡ second_rule) × (b ≡ true)) result) is h)
   where
     read : explore_in rows ≡ second_task (has_second rows) task
     read = ap (option_and_then (second_task (has_second rows))) first
@@ -90,13 +71,13 @@ second_task_from_rows rows task second result first is h = go result (subst (λ 
     none_for : (b : Bool) → b ≡ true → second_task b task ≡ None → second_task true task ≡ None
     none_for b is none = ap (λ (x : Bool). second_task x task) (sym is) ∙ none
 
-    go : (r : Result Task Mistake) → IsValueOrMistake (second_task (has_second rows) task) (λ m. (m ≡ Second) × (has_second rows ≡ true)) r → IsTaskOrMistake explore_in rows r
+    go : (r : Result Task Mistake) → IsValueOrMistake (second_task (has_second rows) task) (λ said. (said ≡ second_rule) × (has_second rows ≡ true)) r → IsReadOrMistake explore_in rows r
     go (Ok t) made = (read ∙ made.0, tt)
     go (Err m) made =
-        (tt, (read ∙ made.1.0, subst (λ x. IsMistakeIn x rows) (sym made.1.1.0) (made.1.1.1, no_second_where_no_first (first_of (codes "from") rows) (first_of (codes "hprof") rows) (first_of (codes "page") rows) (first_of (codes "port") rows) (has_secret rows) task first (none_for (has_second rows) made.1.1.1 made.1.0))))
+        (tt, (read ∙ made.1.0, second_mistake_is_in_rows (said_of m) rows made.1.1.0 made.1.1.1 (no_second_where_no_first (first_of (codes "from") rows) (first_of (codes "hprof") rows) (first_of (codes "page") rows) (first_of (codes "port") rows) (has_secret rows) task first (none_for (has_second rows) made.1.1.1 made.1.0))))
 
 -- a mistake in the other options is one of the rows
-pub first_mistake_is_in_rows : (rows : List Row) (m : Mistake) → IsTaskOrMistake first_task_in rows (Err m) → IsTaskOrMistake explore_in rows (Err m)
+pub first_mistake_is_in_rows : (rows : List Row) (m : Mistake) → IsReadOrMistake first_task_in rows (Err m) → IsReadOrMistake explore_in rows (Err m)
 first_mistake_is_in_rows rows m made = (tt, (ap (option_and_then (second_task (has_second rows))) made.1.0, made.1.1))
 
 -- the texts of the options of `explore` are those of their rows
@@ -106,7 +87,7 @@ AreExploreTexts found from hprof page port =
 
 -- its task, or a mistake in them, is that of the rows
 pub explore_task_from_rows : (found : Found) (from hprof page port : Option Text) (secret : Bool) (result : Result Task Mistake) → AreExploreTexts found from hprof page port → secret ≡ has_secret (rows_of found) → IsExploreOrMistake from hprof page port secret result
-    → IsTaskOrMistake first_task_in (rows_of found) result
+    → IsReadOrMistake first_task_in (rows_of found) result
 explore_task_from_rows found from hprof page port secret result texts guarded h =
     of_rows result
     (subst (λ b. IsExploreOrMistake (first_of (codes "from") (rows_of found)) (first_of (codes "hprof") (rows_of found)) (first_of (codes "page") (rows_of found)) (first_of (codes "port") (rows_of found)) b result) guarded
@@ -116,9 +97,9 @@ explore_task_from_rows found from hprof page port secret result texts guarded h 
     (subst (λ o. IsExploreOrMistake from hprof page o secret result) (texts.3 ∙ first_value-rows found (codes "port")) h)))))
   where
     of_rows : (r : Result Task Mistake) → IsExploreOrMistake (first_of (codes "from") (rows_of found)) (first_of (codes "hprof") (rows_of found)) (first_of (codes "page") (rows_of found)) (first_of (codes "port") (rows_of found)) (has_secret (rows_of found)) r
-        → IsTaskOrMistake first_task_in (rows_of found) r
+        → IsReadOrMistake first_task_in (rows_of found) r
     of_rows (Ok task) made = (made.0, tt)
-    of_rows (Err m) made = (tt, (made.1.0, source_mistake_is_in_rows m (rows_of found) made.1.1))
+    of_rows (Err m) made = (tt, (made.1.0, explore_mistake_is_in_rows (said_of m) (rows_of found) made.1.1))
 
 -- ---- what is told of the words
 
@@ -145,39 +126,3 @@ pub path_option_of_words : (name : Text) (o : Option (Text × List Row)) (found 
 path_option_of_words name o found None words rows is text = tt
 path_option_of_words name o found (Some path) words rows is text =
     ap (option_and_then (λ f. first_of name f.1)) (sym is) ∙ rows_alone name o ∙ ap (option_and_then (first_of name)) (sym rows) ∙ sym (first_value-rows found name) ∙ sym text
-
--- ---- steps that can be undone
-
-no_size_within_bounds : (default least most : ℕ) (given : Option Text) → size_or default least most given ≡ None → IsNoSize least most given
-no_size_within_bounds default least most None e = cc
-no_size_within_bounds default least most (Some text) e = e
-
-no_settings_without_keep : (task : Task) (w u : Bool) (r m t : Option ℕ) (i : Option IdSize) (q o : Option Bool) → settings_with task w u r m None t i q o ≡ None
-no_settings_without_keep task w u None m t i q o = refl
-no_settings_without_keep task w u (Some r) None t i q o = refl
-no_settings_without_keep task w u (Some r) (Some m) t i q o = refl
-
-mistake_of_keep : (w : Bool) (rows : List Row) → wide_in rows ≡ Some w → IsNoSize 1 (most_kept w) (first_of (codes "keep") rows) → IsMistakeIn (keep_mistake w) rows
-mistake_of_keep false rows wide h = (wide, h)
-mistake_of_keep true rows wide h = (wide, h)
-
--- an option `--keep` that is out of its range is the mistake of its command
-pub keep_mistake_is_in_rows : (task : Task) (w u : Bool) (rows : List Row) → wide_in rows ≡ Some w → keep_in task w rows ≡ None → (settings_over task rows w u ≡ None) × IsMistakeIn (keep_mistake w) rows
-keep_mistake_is_in_rows task w u rows wide e = (
-  rw e (no_settings_without_keep task w u (regions_in task w rows) (option_value (codes "mutators") 2 1 mutator_limit rows) (option_value (codes "time") 0 0 time_limit rows) (id_size_in rows) (questions_in rows) (rolls_in rows)),
-  mistake_of_keep w rows wide (no_size_within_bounds (keep_default task w) 1 (most_kept w) (first_of (codes "keep") rows) e),
-)
-
--- ---- the area
-
-mistake_of_area : (task : Task) (w : Bool) (r : ℕ) (rows : List Row) → wide_in rows ≡ Some w → regions_in task w rows ≡ Some r → IsNoSize 0 (most_area w r) (first_of (codes "area") rows) → IsMistakeIn (area_mistake w) rows
-mistake_of_area task false r rows wide regions h = (wide, h)
-mistake_of_area task true r rows wide regions h = (task, r, wide, regions, h)
-
--- an option `--area` that is out of its range is the mistake of its command
-pub area_mistake_is_in_rows : (s : Settings) (rows : List Row) → wide_in rows ≡ Some s.wide → regions_in s.task s.wide rows ≡ Some s.regions → area_in s.task s.wide s.regions rows ≡ None
-    → (with_area_in rows s ≡ None) × IsMistakeIn (area_mistake s.wide) rows
-area_mistake_is_in_rows s rows wide regions e = (
-  ap (option_map (λ n. record s { area = n })) e,
-  mistake_of_area s.task s.wide s.regions rows wide regions (no_size_within_bounds (area_default s.task s.wide s.regions) 0 (most_area s.wide s.regions) (first_of (codes "area") rows) e),
-)

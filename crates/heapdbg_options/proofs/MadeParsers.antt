@@ -1,12 +1,12 @@
 -- What reads a command line, step by step.
-use Rattle.std.proofs.Common.{◌≡◌, ◌∙◌, ◌++◌, ◌<◌, ◌+◌, ◌∷◌, ◌||◌, [], ℕ, Err, IfOk, List, Ok, Result, ap, false, get_or, length, map, refl, sym, take}
+use Rattle.std.proofs.Common.{◌≡◌, ◌∙◌, ◌++◌, ◌<◌, ◌+◌, ◌∷◌, ◌||◌, [], ℕ, Err, IfOk, List, Ok, Result, ap, false, get_or, length, map, refl, subst, sym, take}
 use Rattle.std.proofs.lemmas.List.{take_more}
 use Rattle.std.specs.declared.alloc.AllocError.{AllocError}
 use Rattle.clap.specs.Words.{AddsArg, AddsSubcommand, App, app_of, rule_of, with_rule, with_subcommand}
 use Rattle.clap.specs.declared.builder.arg.Arg.{Arg}
 use Rattle.clap.specs.declared.builder.Command.{Command}
 use Rattle.clap.specs.declared.builder.Command.TheViews.{out-Command}
-use Rattle.heapdbg_options.specs.Parsers.{AddsCommand, line_of_row, rule_of_row, with_command_rows, with_rules}
+use Rattle.heapdbg_options.specs.Parsers.{AddsCommand, IsParserOf, line_of_row, rule_of_row, with_command_rows, with_rules}
 use Rattle.heapdbg_options.specs.declared.option_rows.CommandRow.{CommandRow}
 use Rattle.heapdbg_options.specs.declared.option_rows.OptionRow.{OptionRow}
 
@@ -45,3 +45,7 @@ pub more_commands : (line : App) (rows : List CommandRow) (i : ℕ) (d : Command
 more_commands line rows i d old new within adds was free =
     let taken = ap (λ l. with_command_rows line l) (take_more rows i d within) ∙ last_command line (take i rows) (get_or rows i d) in
     (adds.0 ∙ ap (λ l. with_subcommand l (line_of_row (get_or rows i d)).top) was ∙ sym taken, adds.1 free)
+
+-- what reads the commands of these rows reads a line, where that is the line of the rows
+pub parser_of_rows_reads_line : (line named old : App) (rows : List CommandRow) (result : Result Command AllocError) → old ≡ named → IsParserOf (with_command_rows old rows) result → with_command_rows named rows ≡ line → IsParserOf line result
+parser_of_rows_reads_line line named old rows result is made whole = subst (λ l. IsParserOf l result) (ap (λ a. with_command_rows a rows) is ∙ whole) made

@@ -4,7 +4,7 @@ use Rattle.std.specs.Prelude.{option_and_then, option_map}
 use Rattle.std.specs.Str.{bytes_eq}
 use Rattle.clap.specs.Words.{Row, Text}
 use Rattle.heapdbg_options.specs.CommandLine.{ask_in, draw_in, explore_in, fetch_in, is_task, run_in, save_in, serve_in, settings_in, settings_under, task_in}
-use Rattle.heapdbg_options.specs.Refusals.{IsMistake, IsMistakeIn, IsTaskOrMistake, IsValueOrMistake}
+use Rattle.heapdbg_options.specs.Refusals.{IsMistake, IsReadOrMistake, IsValueOrMistake, said_of}
 use Rattle.heapdbg_options.specs.declared.refusal.Mistake.{Mistake}
 use Rattle.heapdbg_options.specs.declared.settings.Settings.{Settings}
 use Rattle.heapdbg_options.specs.declared.settings.Task.{Task}
@@ -25,8 +25,8 @@ abbrev any_task_flag : Bool → Bool → Bool → Bool → Bool → Bool → Boo
 any_task_flag run explore draw save serve ask fetch = run || (explore || (draw || (save || (serve || (ask || fetch)))))
 
 -- what the options of a command give is what the name and the options give
-pub command_task_by_name_and_rows : (read : List Row → Option Task) (name : Text) (rows : List Row) (result : Result Task Mistake) → task_in name rows ≡ read rows → IsTaskOrMistake read rows result
-    → IsValueOrMistake (task_in name rows) (λ m. IsMistake m (Some (name, rows))) result
+pub command_task_by_name_and_rows : (read : List Row → Option Task) (name : Text) (rows : List Row) (result : Result Task Mistake) → task_in name rows ≡ read rows → IsReadOrMistake read rows result
+    → IsValueOrMistake (task_in name rows) (λ said. IsMistake said (Some (name, rows))) result
 command_task_by_name_and_rows read name rows (Ok task) e h = (e ∙ h.0, tt)
 command_task_by_name_and_rows read name rows (Err m) e h = (tt, (e ∙ h.1.0, inl h.1.1))
 
@@ -78,21 +78,21 @@ found_command_by_name_and_rows f g (Some s) name rows e h = cc
 
 -- the settings of the command that was found, or the mistake in it
 pub settings_of_found_command : (found : Option (Text × List Row)) (name : Text) (rows : List Row) (task : Task) (result : Result Settings Mistake) → found ≡ Some (name, rows) → task_in name rows ≡ Some task
-    → IsValueOrMistake (settings_in task rows) (λ m. IsMistakeIn m rows) result → IsValueOrMistake (option_and_then settings_under found) (λ m. IsMistake m found) result
+    → IsReadOrMistake (settings_in task) rows result → IsValueOrMistake (option_and_then settings_under found) (λ said. IsMistake said found) result
 settings_of_found_command found name rows task (Ok settings) e named h =
     (ap (option_and_then settings_under) e ∙ ap (option_and_then (λ t. settings_in t rows)) named ∙ h.0, tt)
 settings_of_found_command found name rows task (Err m) e named h = (
   tt,
   (
     ap (option_and_then settings_under) e ∙ ap (option_and_then (λ t. settings_in t rows)) named ∙ h.1.0,
-    subst (λ f. IsMistake m f) (sym e) (inl h.1.1),
+    subst (λ f. IsMistake (said_of m) f) (sym e) (inl h.1.1),
   ),
 )
 
 -- no settings of the command that was found, whose options have a mistake
-pub no_settings_of_mistaken_command : (found : Option (Text × List Row)) (name : Text) (rows : List Row) (m : Mistake) → found ≡ Some (name, rows) → (task_in name rows ≡ None) × IsMistake m (Some (name, rows))
-    → (option_and_then settings_under found ≡ None) × IsMistake m found
-no_settings_of_mistaken_command found name rows m e h = (
+pub no_settings_of_mistaken_command : (found : Option (Text × List Row)) (name : Text) (rows : List Row) (said : Text) → found ≡ Some (name, rows) → (task_in name rows ≡ None) × IsMistake said (Some (name, rows))
+    → (option_and_then settings_under found ≡ None) × IsMistake said found
+no_settings_of_mistaken_command found name rows said e h = (
   ap (option_and_then settings_under) e ∙ ap (option_and_then (λ t. settings_in t rows)) h.0,
-  subst (λ f. IsMistake m f) (sym e) h.1,
+  subst (λ f. IsMistake said f) (sym e) h.1,
 )

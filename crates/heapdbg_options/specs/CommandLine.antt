@@ -12,9 +12,9 @@ use Rattle.clap.specs.Words.{App, Row, Rule, Text, fault_of, first_of, new_app, 
 use Rattle.clap.specs.declared.builder.ArgAction.TheVariants.{Set}
 use Rattle.heap_class.specs.declared.IdSize.{IdSize}
 use Rattle.heap_class.specs.declared.IdSize.TheVariants.{Four, Eight}
-use Rattle.heap_world.specs.RegionLimits.{region_limit}
-use Rattle.heap_world.specs.Limits.{AreHeapSettings, AreNarrowSettings, keep_limit, mutator_limit, narrow_keep, narrow_limits, narrow_regions, wide_limits, with_area}
+use Rattle.heap_world.specs.Limits.{AreHeapSettings, AreNarrowSettings, narrow_keep, narrow_limits, wide_limits, with_area}
 use Rattle.heap_world.specs.declared.Limits.{Limits}
+use Rattle.heapdbg_options.specs.Numbers.{Numbers, flag_numbers, id_numbers, idle_numbers, most_kept, most_regions, mutator_numbers, port_limit, session_numbers, time_numbers}
 use Rattle.heapdbg_options.specs.declared.settings.Origin.{Origin}
 use Rattle.heapdbg_options.specs.declared.settings.Origin.TheVariants.{Fresh, Lines, Dump, Dumps}
 use Rattle.heapdbg_options.specs.declared.settings.Service.{Service}
@@ -188,6 +188,10 @@ number_or default least most (Some text) = number_in least most text
 abbrev pub option_value : Text → ℕ → ℕ → ℕ → List Row → Option ℕ
 option_value name default least most rows = number_or default least most (first_of name rows)
 
+-- the value among the options given of one that takes a number
+abbrev pub value_in : Numbers → List Row → Option ℕ
+value_in n rows = option_value n.name n.default n.least n.most rows
+
 -- the text before this suffix, if it ends in it
 abbrev pub text_before : Text → Text → Option Text
 text_before suffix text =
@@ -232,7 +236,7 @@ id_size_of bytes = if bytes == 4 then Some Four else (if bytes == 8 then Some Ei
 
 -- the size of identifiers that the option is given, and its default if it is not given
 abbrev pub id_size_in : List Row → Option IdSize
-id_size_in rows = option_and_then id_size_of (option_value (codes "ids") 8 4 8 rows)
+id_size_in rows = option_and_then id_size_of (value_in id_numbers rows)
 
 -- the settings without an area, if each option has a value in its range
 abbrev pub settings_with : Task → Bool → Bool → Option ℕ → Option ℕ → Option ℕ → Option ℕ
@@ -254,13 +258,9 @@ settings_with task wide quiet (Some regions) (Some mutators) (Some keep) (Some t
     })
 settings_with task wide quiet _ _ _ _ _ _ _ = None
 
--- the largest time
-abbrev pub time_limit : ℕ
-time_limit = 18446744073709551615
-
 -- whether an option is given as 1: not, if it is not given
 abbrev pub flag_in : Text → List Row → Option Bool
-flag_in name rows = option_map (λ number. number == 1) (option_value name 0 0 1 rows)
+flag_in name rows = option_map (λ number. number == 1) (value_in (flag_numbers name) rows)
 
 -- whether questions are answered
 abbrev pub questions_in : List Row → Option Bool
@@ -287,14 +287,6 @@ abbrev pub wide_in : List Row → Option Bool
 wide_in rows =
     option_map (λ number. number == 1)
     (option_value (codes "wide") (wide_default (has_dump rows)) 0 1 rows)
-
--- the largest number of regions of a heap that is wide, or isn't
-abbrev pub most_regions : Bool → ℕ
-most_regions wide = if wide then region_limit else narrow_regions
-
--- the largest number of steps that can be undone in a heap that is wide, or isn't
-abbrev pub most_kept : Bool → ℕ
-most_kept wide = if wide then keep_limit else narrow_keep
 
 -- what is run before the session of a task
 abbrev pub origin_of : Task → Origin
@@ -370,8 +362,7 @@ with_area_in rows s =
 -- the settings of a task and its options, but the area, over a heap that is wide, or isn't, with progress shown or not
 abbrev pub settings_over : Task → List Row → Bool → Bool → Option Settings
 settings_over task rows wide quiet = settings_with task wide quiet (regions_in task wide rows)
-    (option_value (codes "mutators") 2 1 mutator_limit rows) (keep_in task wide rows)
-    (option_value (codes "time") 0 0 time_limit rows)
+    (value_in mutator_numbers rows) (keep_in task wide rows) (value_in time_numbers rows)
     (id_size_in rows) (questions_in rows) (rolls_in rows)
 
 -- the settings of a task and its options
@@ -381,25 +372,17 @@ settings_in task rows =
     (option_and_then (λ wide. option_and_then (settings_over task rows wide) (quiet_in rows))
     (wide_in rows))
 
--- the highest port
-abbrev pub port_limit : ℕ
-port_limit = 65535
-
 -- the port that is given
 abbrev pub port_in : List Row → Option ℕ
 port_in rows = option_and_then (number_in 1 port_limit) (first_of (codes "port") rows)
 
--- the largest number of sessions
-abbrev pub most_sessions : ℕ
-most_sessions = 1000
-
 -- the number of sessions asked for, and 1 if the option is not given
 abbrev pub sessions_in : List Row → Option ℕ
-sessions_in rows = option_value (codes "sessions") 1 1 most_sessions rows
+sessions_in rows = value_in session_numbers rows
 
 -- the number of markers and of sweepers asked for, and none if the option is not given
 abbrev pub workers_in : List Row → Option ℕ
-workers_in rows = option_value (codes "workers") 0 0 1 rows
+workers_in rows = value_in (flag_numbers (codes "workers")) rows
 
 -- the port of the page of a session's own heap: none, if the option is not given
 abbrev pub own_page : Option Text → Option (Option ℕ)
@@ -499,13 +482,9 @@ page_in rows =
     option_and_then (λ port. option_and_then (λ dumps. page_beside port dumps rows) (dumps_in rows))
     (port_in rows)
 
--- the largest number of seconds after which a session is ended
-abbrev pub idle_limit : ℕ
-idle_limit = 86400
-
 -- after how many seconds without input a session is ended, and 0 if the option is not given: none is
 abbrev pub idle_in : List Row → Option ℕ
-idle_in rows = option_value (codes "idle") 0 1 idle_limit rows
+idle_in rows = value_in idle_numbers rows
 
 -- whether the heap is served until it is ended from outside
 abbrev pub stays_in : List Row → Option Bool
@@ -613,9 +592,9 @@ IsThird port dumps (Some page) =
 -- the ports and numbers of a served heap are within their limits
 abbrev pub IsService : Service → Type 0
 IsService s =
-    (1 ≤ s.port) × (s.port ≤ port_limit) × (1 ≤ s.sessions) × (s.sessions ≤ most_sessions)
+    (1 ≤ s.port) × (s.port ≤ port_limit) × (1 ≤ s.sessions) × (s.sessions ≤ session_numbers.most)
     × (s.workers ≤ 1) × IsOther s.port s.dumps × IsThird s.port s.dumps s.page
-    × (s.idle ≤ idle_limit)
+    × (s.idle ≤ idle_numbers.most)
 
 -- the ports and numbers of a task are within their limits
 abbrev pub IsTask : Task → Type 0

@@ -1,5 +1,6 @@
 -- The meaning of the program's command line.
 pub mod CommandLine
+pub mod Numbers
 pub mod Parsers
 pub mod Refusals
 -- What clauses here, and proofs above, cite of the crates below.

@@ -5,10 +5,10 @@ use Rattle.std.specs.Str.{bytes_eq}
 use Rattle.clap.specs.Words.{IsAmong, Row, Text, fault_of, first_of, subcommand_of}
 use Rattle.clap.specs.declared.error.kind.ErrorKind.{ErrorKind}
 use Rattle.clap.specs.declared.error.kind.ErrorKind.TheVariants.{DisplayHelp, DisplayVersion, OutOfMemory}
-use Rattle.heap_world.specs.Limits.{mutator_limit}
-use Rattle.heapdbg_options.specs.CommandLine.{dumps_with, explore_with, has_second, has_secret, heapdbg_line, id_size_in, idle_in, is_task, most_area, most_kept, most_regions, number_in, page_with, port_in, port_limit, questions_in, quiet_in, regions_in, rolls_in, sessions_in, settings_of, stays_in, option_value, size_in, time_limit, wide_in, workers_in}
+use Rattle.heapdbg_options.specs.Numbers.{Numbers, dump_port_numbers, id_numbers, option_named, number_options, row_numbers, page_numbers, port_limit, served_page_numbers, served_port_numbers, size_options, taken_text, target_numbers}
+use Rattle.heapdbg_options.specs.CommandLine.{dumps_with, explore_with, has_second, has_secret, heapdbg_line, id_size_in, is_task, most_area, number_in, page_with, port_in, regions_in, settings_of, size_in, wide_in}
 use Rattle.heapdbg_options.specs.declared.refusal.Mistake.{Mistake}
-use Rattle.heapdbg_options.specs.declared.refusal.Mistake.TheVariants.{Command, Wide, Regions, WideRegions, Area, WideArea, Mutators, Keep, WideKeep, Time, Ids, Port, Sessions, Workers, Questions, Roll, Quiet, Dumps, Page, Idle, Stay, To, Place, Origin, Source, OwnPage, Secret, Second}
+use Rattle.heapdbg_options.specs.declared.refusal.Mistake.TheVariants.{Command, Rule, Value}
 use Rattle.heapdbg_options.specs.declared.settings.LineFault.{LineFault}
 use Rattle.heapdbg_options.specs.declared.settings.LineFault.TheVariants.{Bad, CommandText, Memory, OptionText}
 use Rattle.heapdbg_options.specs.declared.settings.Task.{Task}
@@ -23,153 +23,131 @@ abbrev pub IsNoSize : ℕ → ℕ → Option Text → Type 0
 IsNoSize least most None = ⊥
 IsNoSize least most (Some text) = size_in least most text ≡ None
 
+-- an option has no number that it takes, whatever else is given
+abbrev pub IsNumberMistake : Text → List Row → Type 0
+IsNumberMistake said rows =
+    (n : Numbers) × (option_named n.name number_options ≡ Some n) × (said ≡ taken_text n)
+    × IsOutside n.least n.most (first_of n.name rows)
+
+-- an option has no size that it takes in a heap that is wide, or isn't
+abbrev pub IsSizeMistake : Text → List Row → Type 0
+IsSizeMistake said rows =
+    (wide : Bool) × (n : Numbers) × (wide_in rows ≡ Some wide)
+    × (option_named n.name (size_options wide) ≡ Some n) × (said ≡ taken_text n)
+    × IsNoSize n.least n.most (first_of n.name rows)
+
+-- what is said of an area that a heap can't have that is wide, or isn't
+abbrev pub area_rule : Bool → Text
+area_rule wide =
+    if wide then codes "--area takes 0 to one less than the number of --regions"
+    else codes "--area takes 0 without --wide 1"
+
+-- the area is none that a task's heap can have that has this many regions and is wide, or isn't
+abbrev pub IsAreaMistake : Text → List Row → Type 0
+IsAreaMistake said rows =
+    (task : Task) × (wide : Bool) × (regions : ℕ) × (said ≡ area_rule wide)
+    × (wide_in rows ≡ Some wide) × (regions_in task wide rows ≡ Some regions)
+    × IsNoSize 0 (most_area wide regions) (first_of (codes "area") rows)
+
+-- the port for dumps is none, or that of the sessions
+abbrev pub IsDumpPortMistake : Text → List Row → Type 0
+IsDumpPortMistake said rows =
+    (port : ℕ) × (said ≡ taken_text dump_port_numbers) × (port_in rows ≡ Some port)
+    × (dumps_with port (first_of (codes "dumps") rows) ≡ None)
+
+-- the port of the page of a heap that is served is none, or one of its other ports
+abbrev pub IsPageMistake : Text → List Row → Type 0
+IsPageMistake said rows =
+    (port : ℕ) × (dumps : Option ℕ) × (said ≡ taken_text served_page_numbers)
+    × (port_in rows ≡ Some port) × (dumps_with port (first_of (codes "dumps") rows) ≡ Some dumps)
+    × (page_with port dumps (first_of (codes "page") rows) ≡ None)
+
 -- a path and a port have this mistake, of which one has to be given
-abbrev pub IsTargetMistake : Mistake → Option Text → Option Text → Type 0
-IsTargetMistake m path port =
-    ((m ≡ Place) × (is_some path ≡ is_some port)) ⊎ ((m ≡ To) × IsOutside 1 port_limit port)
+abbrev pub IsTargetMistake : Text → Option Text → Option Text → Type 0
+IsTargetMistake said path port =
+    ((said ≡ codes "save takes one of --out and --to") × (is_some path ≡ is_some port))
+    ⊎ ((said ≡ taken_text target_numbers) × IsOutside 1 port_limit port)
 
 -- a file of lines, a dump, a page, a port, and a secret or none have this mistake: the dump may only be given without the file, the
 -- port without the three before it, and a secret only with the port
-abbrev pub IsExploreMistake : Mistake → Option Text → Option Text → Option Text → Option Text → Bool
+abbrev pub IsExploreMistake : Text → Option Text → Option Text → Option Text → Option Text → Bool
     → Type 0
-IsExploreMistake m from hprof page port secret =
-    ((m ≡ Source) × (is_some from || (is_some hprof || is_some page) ≡ true) × (is_some port ≡ true))
-    ⊎ (((m ≡ Port) × IsOutside 1 port_limit port)
-    ⊎ (((m ≡ OwnPage) × IsOutside 1 port_limit page)
-    ⊎ (((m ≡ Secret) × (secret ≡ true) × (is_some port ≡ false))
-    ⊎ ((m ≡ Origin) × (is_some from ≡ true) × (is_some hprof ≡ true)))))
+IsExploreMistake said from hprof page port secret =
+    ((said ≡ codes "explore takes --port without --from, --hprof and --page")
+    × (is_some from || (is_some hprof || is_some page) ≡ true) × (is_some port ≡ true))
+    ⊎ (((said ≡ taken_text served_port_numbers) × IsOutside 1 port_limit port)
+    ⊎ (((said ≡ taken_text page_numbers) × IsOutside 1 port_limit page)
+    ⊎ (((said ≡ codes "explore takes --secret with --port alone") × (secret ≡ true)
+    × (is_some port ≡ false))
+    ⊎ ((said ≡ codes "explore takes --from without --hprof") × (is_some from ≡ true)
+    × (is_some hprof ≡ true)))))
 
--- the options of a command have this mistake
-abbrev pub IsMistakeIn : Mistake → List Row → Type 0
-IsMistakeIn Command rows = ⊥
-IsMistakeIn Wide rows = wide_in rows ≡ None
-IsMistakeIn Regions rows =
-    (wide_in rows ≡ Some false) × IsNoSize 1 (most_regions false) (first_of (codes "regions") rows)
-IsMistakeIn WideRegions rows =
-    (wide_in rows ≡ Some true) × IsNoSize 1 (most_regions true) (first_of (codes "regions") rows)
-IsMistakeIn Area rows =
-    (wide_in rows ≡ Some false) × IsNoSize 0 0 (first_of (codes "area") rows)
-IsMistakeIn WideArea rows =
-    (task : Task) × (regions : ℕ) × (wide_in rows ≡ Some true)
-    × (regions_in task true rows ≡ Some regions)
-    × IsNoSize 0 (most_area true regions) (first_of (codes "area") rows)
-IsMistakeIn Mutators rows = option_value (codes "mutators") 2 1 mutator_limit rows ≡ None
-IsMistakeIn Keep rows =
-    (wide_in rows ≡ Some false) × IsNoSize 1 (most_kept false) (first_of (codes "keep") rows)
-IsMistakeIn WideKeep rows =
-    (wide_in rows ≡ Some true) × IsNoSize 1 (most_kept true) (first_of (codes "keep") rows)
-IsMistakeIn Time rows = option_value (codes "time") 0 0 time_limit rows ≡ None
-IsMistakeIn Ids rows = id_size_in rows ≡ None
-IsMistakeIn Port rows = port_in rows ≡ None
-IsMistakeIn Sessions rows = sessions_in rows ≡ None
-IsMistakeIn Workers rows = workers_in rows ≡ None
-IsMistakeIn Questions rows = questions_in rows ≡ None
-IsMistakeIn Roll rows = rolls_in rows ≡ None
-IsMistakeIn Quiet rows = quiet_in rows ≡ None
-IsMistakeIn Dumps rows =
-    (port : ℕ) × (port_in rows ≡ Some port)
-    × (dumps_with port (first_of (codes "dumps") rows) ≡ None)
-IsMistakeIn Page rows =
-    (port : ℕ) × (dumps : Option ℕ) × (port_in rows ≡ Some port)
-    × (dumps_with port (first_of (codes "dumps") rows) ≡ Some dumps)
-    × (page_with port dumps (first_of (codes "page") rows) ≡ None)
-IsMistakeIn Origin rows =
-    (is_some (first_of (codes "from") rows) ≡ true) × (is_some (first_of (codes "hprof") rows) ≡ true)
-IsMistakeIn Source rows =
-    IsExploreMistake Source (first_of (codes "from") rows) (first_of (codes "hprof") rows)
+-- what is said of a second dump without a first
+abbrev pub second_rule : Text
+second_rule = codes "explore takes --then with --hprof alone"
+
+-- the options of a command have a mistake of which this is said
+abbrev pub IsMistakeIn : Text → List Row → Type 0
+IsMistakeIn said rows =
+    IsNumberMistake said rows
+    ⊎ (IsSizeMistake said rows
+    ⊎ (IsAreaMistake said rows
+    ⊎ (((said ≡ taken_text id_numbers) × (id_size_in rows ≡ None))
+    ⊎ (((said ≡ taken_text served_port_numbers) × (port_in rows ≡ None))
+    ⊎ (IsDumpPortMistake said rows
+    ⊎ (IsPageMistake said rows
+    ⊎ (IsTargetMistake said (first_of (codes "out") rows) (first_of (codes "to") rows)
+    ⊎ (IsExploreMistake said (first_of (codes "from") rows) (first_of (codes "hprof") rows)
     (first_of (codes "page") rows) (first_of (codes "port") rows) (has_secret rows)
-IsMistakeIn Secret rows =
-    IsExploreMistake Secret (first_of (codes "from") rows) (first_of (codes "hprof") rows)
-    (first_of (codes "page") rows) (first_of (codes "port") rows) (has_secret rows)
-IsMistakeIn Second rows = (has_second rows ≡ true) × (is_some (first_of (codes "hprof") rows) ≡ false)
-IsMistakeIn OwnPage rows = IsOutside 1 port_limit (first_of (codes "page") rows)
-IsMistakeIn Idle rows = idle_in rows ≡ None
-IsMistakeIn Stay rows = stays_in rows ≡ None
-IsMistakeIn To rows = IsTargetMistake To (first_of (codes "out") rows) (first_of (codes "to") rows)
-IsMistakeIn Place rows =
-    IsTargetMistake Place (first_of (codes "out") rows) (first_of (codes "to") rows)
+    ⊎ ((said ≡ second_rule) × (has_second rows ≡ true)
+    × (is_some (first_of (codes "hprof") rows) ≡ false))))))))))
 
--- the mistake of regions that are out of the range of a heap that is wide, or isn't
-abbrev pub regions_mistake : Bool → Mistake
-regions_mistake wide = if wide then WideRegions else Regions
+-- what is said of a mistake
+abbrev pub said_of : Mistake → Text
+said_of Command = codes "heapdbg takes one of run, explore, draw, save, serve, ask and fetch"
+said_of (Value row) = taken_text (row_numbers row)
+said_of (Rule rule) = rule.now
 
--- the mistake of an area that is out of the range of a heap that is wide, or isn't
-abbrev pub area_mistake : Bool → Mistake
-area_mistake wide = if wide then WideArea else Area
-
--- the mistake of steps to keep that are out of the range of a heap that is wide, or isn't
-abbrev pub keep_mistake : Bool → Mistake
-keep_mistake wide = if wide then WideKeep else Keep
-
--- what is read, or why there is none: a mistake
-abbrev pub IsValueOrMistake : {A : Type 0} → Option A → (Mistake → Type 0) → Result A Mistake
-    → Type 0
+-- what is read, or a mistake, of which what is said fits
+abbrev pub IsValueOrMistake : {A : Type 0} → Option A → (Text → Type 0) → Result A Mistake → Type 0
 IsValueOrMistake read IsMade result =
-    IfOk result (λ x. read ≡ Some x) × IfErr result (λ m. (read ≡ None) × IsMade m)
+    IfOk result (λ x. read ≡ Some x) × IfErr result (λ m. (read ≡ None) × IsMade (said_of m))
 
--- the task of a command's options, or the mistake in them
-abbrev pub IsTaskOrMistake : (List Row → Option Task) → List Row → Result Task Mistake → Type 0
-IsTaskOrMistake read rows result = IsValueOrMistake (read rows) (λ m. IsMistakeIn m rows) result
+-- what is read of a command's options, or the mistake in them
+abbrev pub IsReadOrMistake : {A : Type 0} → (List Row → Option A) → List Row → Result A Mistake
+    → Type 0
+IsReadOrMistake read rows result =
+    IsValueOrMistake (read rows) (λ said. IsMistakeIn said rows) result
 
 -- what is chosen by two options, or the mistake in them
 abbrev pub IsChoiceOrMistake : {A : Type 0} → (Option Text → Option Text → Option A)
-    → (Mistake → Option Text → Option Text → Type 0) → Option Text → Option Text
-    → Result A Mistake → Type 0
+    → (Text → Option Text → Option Text → Type 0) → Option Text → Option Text → Result A Mistake
+    → Type 0
 IsChoiceOrMistake choose IsMade one other result =
-    IsValueOrMistake (choose one other) (λ m. IsMade m one other) result
+    IsValueOrMistake (choose one other) (λ said. IsMade said one other) result
 
 -- the task of `explore` to which these are given, or the mistake in them
 abbrev pub IsExploreOrMistake : Option Text → Option Text → Option Text → Option Text → Bool
     → Result Task Mistake → Type 0
 IsExploreOrMistake from hprof page port secret result =
     IsValueOrMistake (explore_with from hprof page port secret)
-    (λ m. IsExploreMistake m from hprof page port secret) result
+    (λ said. IsExploreMistake said from hprof page port secret) result
 
 -- no command of the program is there
 abbrev pub IsNoTask : Option (Text × List Row) → Type 0
 IsNoTask None = ⊤
 IsNoTask (Some found) = is_task found.0 ≡ false
 
--- a command line, of which a command and its options were found, has this mistake
-abbrev pub IsMistake : Mistake → Option (Text × List Row) → Type 0
-IsMistake m found =
-    IsMistakeIn m (option_map_or (λ f. f.1) found []) ⊎ ((m ≡ Command) × IsNoTask found)
+-- a command line, of which a command and its options were found, has a mistake of which this is said
+abbrev pub IsMistake : Text → Option (Text × List Row) → Type 0
+IsMistake said found =
+    IsMistakeIn said (option_map_or (λ f. f.1) found [])
+    ⊎ ((said ≡ said_of Command) × IsNoTask found)
 
--- the text that says what has to be given instead
-abbrev pub mistake_of : Mistake → Text
-mistake_of Command = codes "heapdbg takes one of run, explore, draw, save, serve, ask and fetch"
-mistake_of Wide = codes "--wide takes 0 or 1"
-mistake_of Regions = codes "--regions takes 1 to 256"
-mistake_of WideRegions = codes "--regions takes 1 to 65536"
-mistake_of Area = codes "--area takes 0 without --wide 1"
-mistake_of WideArea = codes "--area takes 0 to one less than the number of --regions"
-mistake_of Mutators = codes "--mutators takes 1 to 16"
-mistake_of Keep = codes "--keep takes 1 to 65536"
-mistake_of WideKeep = codes "--keep takes 1 to 16777216"
-mistake_of Time = codes "--time takes 0 to 18446744073709551615"
-mistake_of Ids = codes "--ids takes 4 or 8"
-mistake_of Port = codes "--port takes 1 to 65535"
-mistake_of Sessions = codes "--sessions takes 1 to 1000"
-mistake_of Workers = codes "--workers takes 0 or 1"
-mistake_of Questions = codes "--questions takes 0 or 1"
-mistake_of Roll = codes "--roll takes 0 or 1"
-mistake_of Quiet = codes "--quiet takes 0 or 1"
-mistake_of Dumps = codes "--dumps takes 1 to 65535, and not the number of --port"
-mistake_of Page = codes "--page takes 1 to 65535, and not the number of --port or --dumps"
-mistake_of Idle = codes "--idle takes 1 to 86400"
-mistake_of Stay = codes "--stay takes 0 or 1"
-mistake_of To = codes "--to takes 1 to 65535"
-mistake_of Place = codes "save takes one of --out and --to"
-mistake_of Origin = codes "explore takes --from without --hprof"
-mistake_of Source = codes "explore takes --port without --from, --hprof and --page"
-mistake_of OwnPage = codes "--page takes 1 to 65535"
-mistake_of Secret = codes "explore takes --secret with --port alone"
-mistake_of Second = codes "explore takes --then with --hprof alone"
-
--- the whole text of a mistake
-abbrev pub text_of_mistake : Mistake → Text
-text_of_mistake m =
-    codes "error: " ++ (mistake_of m ++ codes "\n\nFor more information, try 'heapdbg --help'.\n")
+-- the whole text of a refusal that says this
+abbrev pub mistake_text : Text → Text
+mistake_text said =
+    codes "error: " ++ (said ++ codes "\n\nFor more information, try 'heapdbg --help'.\n")
 
 -- the answer to `--version`
 abbrev pub version_text : Text
@@ -178,7 +156,7 @@ version_text = codes "heapdbg 1.0.0 (logic dac8208d650f15bf)\n"
 -- the text names a mistake of the command line
 abbrev pub NamesMistake : List Text → Text → Type 0
 NamesMistake words text =
-    (m : Mistake) × IsMistake m (subcommand_of heapdbg_line words) × (text ≡ text_of_mistake m)
+    (said : Text) × IsMistake said (subcommand_of heapdbg_line words) × (text ≡ mistake_text said)
 
 -- the command is `help`
 abbrev pub is_help : List Text → Bool

@@ -5,15 +5,19 @@ ghost use Rattle.std.specs.Prelude.{option_and_then};
 ghost use Rattle.std.specs.Char.{is_ascii_digit};
 ghost use Rattle.clap.specs.Words.{FailsBy, app_of, fault_of, found_of, kind_of, rows_of, subcommand_of, subcommand_rows_of};
 ghost use Rattle.clap.specs.declared.builder.Command.TheViews.{out-Command};
-ghost use Rattle.heapdbg_options.specs.Parsers.{IsParserOf};
+ghost use Rattle.heapdbg_options.specs.Parsers.{IsParserOf, with_command_rows};
 ghost use Rattle.heapdbg_options.specs.CommandLine.{AreSettingsWithin, HasDefaults, heapdbg_line, named_line, number_in};
 ghost use Rattle.heapdbg_options.specs.CommandLine.{settings_in, settings_of, settings_over, settings_under, texts, option_size, option_value, counted_in, size_in, text_before};
-ghost use Rattle.heapdbg_options.specs.CommandLine.{id_size_in, id_size_of, flag_in, has_dump, keep_after, keep_default, most_kept, most_regions, origin_of, path_of, regions_after, regions_default, regions_in, task_in, usual_keep, wide_default, wide_in};
+ghost use Rattle.heapdbg_options.specs.CommandLine.{id_size_in, id_size_of, flag_in, has_dump, keep_after, keep_default, origin_of, path_of, regions_after, regions_default, regions_in, task_in, usual_keep, value_in, wide_default, wide_in};
+ghost use Rattle.heapdbg_options.specs.Numbers.{flag_numbers, most_kept, most_regions, option_named, number_options, row_numbers_in, row_numbers, size_options};
 ghost use Rattle.heapdbg_options.specs.CommandLine.{area_after, area_default, most_area, with_area_in};
-ghost use Rattle.heapdbg_options.specs.Refusals.{IsMistake, IsMistakeIn, IsRefusalOf, area_mistake, keep_mistake, regions_mistake, IsSaidOf, IsValueOrMistake, is_help};
+ghost use Rattle.heapdbg_options.specs.Refusals.{IsMistake, IsReadOrMistake, IsRefusalOf, IsSaidOf, IsValueOrMistake, area_rule, is_help};
 
 use crate::line_words::{is_help, is_version};
-use crate::option_rows::{CommandRow, with_commands};
+use crate::option_rows::{
+    AREA, CommandRow, IDS, KEEP, MUTATORS, OptionRow, QUESTIONS, QUIET, REGIONS, ROLL, TIME, WIDE,
+    with_commands,
+};
 use crate::refusal::{Mistake, VERSION, version_by_command, version_by_option};
 use crate::save_options::{SAVE, save_task};
 use crate::session_options::{DRAW, EXPLORE, RUN, draw_task, explore_task, run_task};
@@ -23,7 +27,7 @@ use crate::tip::with_tip;
 use clap::error::ErrorKind;
 use clap::{ArgMatches, Command, Error};
 use heap_class::IdSize;
-use heap_world::{KEEP_LIMIT, MUTATOR_LIMIT, NARROW_KEEP, NARROW_REGIONS, REGION_LIMIT};
+use heap_world::NARROW_KEEP;
 use std::alloc::{AllocError, Global};
 
 /// Returns the settings that the words ask for, the first of which is the program's name. Fails with Bad if they are no command
@@ -62,11 +66,16 @@ fn parse<'a>(alloc: Global, words: &'a [&'a str]) -> Result<ArgMatches<'a>, Erro
 fn parser<'a>(alloc: Global) -> Result<Command<'a>, AllocError>
     ensures { IsParserOf heapdbg_line result }
 {
-    with_commands(alloc, named_parser(alloc), &COMMANDS)
+    let rows = commands();
+    with_commands(alloc, named_parser(alloc), &rows)
 }
 
-// The commands, in the order of help.
-const COMMANDS: [CommandRow; 7] = [RUN, EXPLORE, SAVE, DRAW, SERVE, ASK, FETCH];
+// Returns the commands, in the order of help.
+fn commands() -> [CommandRow; 7]
+    ensures { with_command_rows named_line result ≡ heapdbg_line }
+{
+    [RUN, EXPLORE, SAVE, DRAW, SERVE, ASK, FETCH]
+}
 
 // Creates the parser of the program's name.
 fn named_parser<'a>(alloc: Global) -> Command<'a>
@@ -115,7 +124,7 @@ fn help_text(words: &[&str], text: String) -> LineFault
 // Returns the settings that the matches ask for, or the mistake in them.
 fn settings_of_matches(matches: &ArgMatches<'_>) -> Result<Settings, Mistake>
     ensures { IsValueOrMistake (option_and_then settings_under (subcommand_rows_of matches.now))
-        (λ m. IsMistake m (subcommand_rows_of matches.now)) result }
+        (λ said. IsMistake said (subcommand_rows_of matches.now)) result }
 {
     let Some((name, options)) = matches.subcommand() else {
         return Err(Mistake::Command);
@@ -129,7 +138,7 @@ fn settings_of_matches(matches: &ArgMatches<'_>) -> Result<Settings, Mistake>
 // Returns the task of a command's name and options, or the mistake in them.
 fn task_of(name: &str, options: &ArgMatches<'_>) -> Result<Task, Mistake>
     ensures { IsValueOrMistake (task_in name.now (rows_of (found_of options.now)))
-        (λ m. IsMistake m (Some (name.now, rows_of (found_of options.now)))) result }
+        (λ said. IsMistake said (Some (name.now, rows_of (found_of options.now)))) result }
 {
     if name == "run" {
         return Ok(run_task(options));
@@ -156,29 +165,50 @@ fn task_of(name: &str, options: &ArgMatches<'_>) -> Result<Task, Mistake>
     }
 }
 
-// Returns the settings of a task's options, or the option whose value is out of its range.
+// Returns the settings of a task's options, or the mistake in them.
 fn settings_from(task: Task, options: &ArgMatches<'_>) -> Result<Settings, Mistake>
-    ensures { IsValueOrMistake (settings_in task (rows_of (found_of options.now)))
-        (λ m. IsMistakeIn m (rows_of (found_of options.now))) result }
+    ensures { IsReadOrMistake (settings_in task) (rows_of (found_of options.now)) result }
 {
-    let Some(wide) = wide_from(options) else {
-        return Err(Mistake::Wide);
-    };
-    let Some(quiet) = flag_from(options, "quiet") else {
-        return Err(Mistake::Quiet);
-    };
-    match settings_over(task, options, wide, quiet) {
-        Ok(settings) => settings_with_area(settings, options),
-        Err(mistake) => Err(mistake),
+    let wide = wide_from(options)?;
+    let quiet = flag_from(options, QUIET)?;
+    let settings = settings_over(task, options, wide, quiet)?;
+    settings_with_area(settings, options)
+}
+
+// Returns whether the heap is wide, or the mistake in that. If the option isn't given, the heap of a dump is.
+fn wide_from(options: &ArgMatches<'_>) -> Result<bool, Mistake>
+    ensures { IsReadOrMistake wide_in (rows_of (found_of options.now)) result }
+{
+    let number = number_or(options, WIDE, wide_default(has_dump(options)))?;
+    Ok(number == 1)
+}
+
+// Returns the number that an option is given, `default` if it isn't given, or the mistake in it.
+fn number_or(options: &ArgMatches<'_>, row: OptionRow, default: u64) -> Result<u64, Mistake>
+    requires { option_named row.name.now number_options ≡ Some (row_numbers row) }
+    ensures { IsReadOrMistake (option_value row.name.now default row.least row.most)
+        (rows_of (found_of options.now)) result }
+{
+    match option_value(options, row.name, default, row.least, row.most) {
+        Some(number) => Ok(number),
+        None => Err(Mistake::Value(row)),
     }
 }
 
-// Returns whether the heap is wide, or None if the option is out of its range. If it isn't given, the heap of a dump is.
-fn wide_from(options: &ArgMatches<'_>) -> Option<bool>
-    ensures { result ≡ wide_in (rows_of (found_of options.now)) }
+// Returns the value of an option, `default` if it isn't given, or None if it isn't from `least` to `most`.
+fn option_value(
+    options: &ArgMatches<'_>,
+    name: &str,
+    default: u64,
+    least: u64,
+    most: u64,
+) -> Option<u64>
+    ensures { result ≡ option_value name.now default least most (rows_of (found_of options.now)) }
 {
-    let number = option_value(options, "wide", wide_default(has_dump(options)), 0, 1)?;
-    Some(number == 1)
+    match options.get_str(name) {
+        Some(text) => number(text, least, most),
+        None => Some(default),
+    }
 }
 
 // Returns whether a heap is wide if the option isn't given, 1 or 0: that of a dump is.
@@ -189,7 +219,7 @@ fn wide_default(dump: bool) -> u64
 }
 
 // Returns the settings of a task's options over a heap that is wide, or isn't, without an area, with progress shown or not, or the
-// option whose value is out of its range.
+// mistake in them.
 fn settings_over(
     task: Task,
     options: &ArgMatches<'_>,
@@ -197,22 +227,16 @@ fn settings_over(
     quiet: bool,
 ) -> Result<Settings, Mistake>
     requires { wide_in (rows_of (found_of options.now)) ≡ Some wide }
-    ensures { IsValueOrMistake (settings_over task (rows_of (found_of options.now)) wide quiet)
-        (λ m. IsMistakeIn m (rows_of (found_of options.now))) result }
+    ensures { IsReadOrMistake (λ rows. settings_over task rows wide quiet)
+        (rows_of (found_of options.now)) result }
 {
-    let usual = regions_default(task, wide);
-    let Some(regions) = option_size(options, "regions", usual, 1, most_regions(wide)) else {
-        return Err(regions_mistake(wide));
-    };
-    let mutators = option_value(options, "mutators", 2, 1, MUTATOR_LIMIT).ok_or(Mistake::Mutators)?;
-    let kept = keep_default(task, wide);
-    let Some(keep) = option_size(options, "keep", kept, 1, most_kept(wide)) else {
-        return Err(keep_mistake(wide));
-    };
-    let time = option_value(options, "time", 0, 0, u64::MAX).ok_or(Mistake::Time)?;
-    let ids = id_size_from(options).ok_or(Mistake::Ids)?;
-    let questions = flag_from(options, "questions").ok_or(Mistake::Questions)?;
-    let rolls = flag_from(options, "roll").ok_or(Mistake::Roll)?;
+    let regions = size_or(options, REGIONS, wide, regions_default(task, wide))?;
+    let mutators = number_of(options, MUTATORS)?;
+    let keep = size_or(options, KEEP, wide, keep_default(task, wide))?;
+    let time = number_of(options, TIME)?;
+    let ids = id_size_from(options)?;
+    let questions = flag_from(options, QUESTIONS)?;
+    let rolls = flag_from(options, ROLL)?;
     Ok(Settings {
         task,
         wide,
@@ -228,38 +252,37 @@ fn settings_over(
     })
 }
 
-// Returns the number of a task's regions if the option isn't given.
-fn regions_default(task: Task, wide: bool) -> u64
-    ensures { result ≡ regions_default task wide }
+// Returns the size that an option is given in a heap that is wide, or isn't, `default` if it isn't given, or the mistake in it.
+fn size_or(
+    options: &ArgMatches<'_>,
+    row: OptionRow,
+    wide: bool,
+    default: u64,
+) -> Result<u64, Mistake>
+    requires wide { wide_in (rows_of (found_of options.now)) ≡ Some wide }
+    requires size { option_named row.name.now (size_options wide) ≡ Some (row_numbers_in wide row) }
+    ensures { IsReadOrMistake
+        (option_size row.name.now default row.least (row_numbers_in wide row).most)
+        (rows_of (found_of options.now)) result }
 {
-    regions_after(origin_of(task), wide)
-}
-
-// Returns the number of regions if the option isn't given: for a dump the most that there may be.
-fn regions_after(origin: Origin, wide: bool) -> u64
-    ensures { result ≡ regions_after origin wide }
-{
-    match origin {
-        Origin::Fresh | Origin::Lines => 16,
-        Origin::Dump | Origin::Dumps => most_regions(wide),
+    let row = in_heap(row, wide);
+    match option_size(options, row.name, default, row.least, row.most) {
+        Some(size) => Ok(size),
+        None => Err(Mistake::Value(row)),
     }
 }
 
-// Returns the largest number of regions of a heap that is wide, or isn't.
-fn most_regions(wide: bool) -> u64
-    ensures { result ≡ most_regions wide }
+// Returns the row of an option in a heap that is wide, or isn't.
+fn in_heap(row: OptionRow, wide: bool) -> OptionRow
+    ensures { row_numbers result ≡ row_numbers_in wide row }
 {
-    if wide { REGION_LIMIT } else { NARROW_REGIONS }
-}
-
-// Returns what is run before the session of a task.
-fn origin_of(task: Task) -> Origin
-    ensures { result ≡ origin_of task }
-{
-    match task {
-        Task::Run(origin) | Task::Explore { origin, .. } | Task::Draw(origin) => origin,
-        Task::Serve(service) => service.origin,
-        _ => Origin::Fresh,
+    if wide {
+        OptionRow {
+            most: row.wide_most,
+            ..row
+        }
+    } else {
+        row
     }
 }
 
@@ -314,14 +337,38 @@ fn counted(text: &str, times: u64, least: u64, most: u64) -> Option<u64>
     }
 }
 
-// Returns the mistake of regions that are out of the range of a heap that is wide, or isn't.
-fn regions_mistake(wide: bool) -> Mistake
-    ensures { result ≡ regions_mistake wide }
+// Returns the number of a task's regions if the option isn't given.
+fn regions_default(task: Task, wide: bool) -> u64
+    ensures { result ≡ regions_default task wide }
 {
-    if wide {
-        Mistake::WideRegions
-    } else {
-        Mistake::Regions
+    regions_after(origin_of(task), wide)
+}
+
+// Returns the number of regions if the option isn't given: for a dump the most that there may be.
+fn regions_after(origin: Origin, wide: bool) -> u64
+    ensures { result ≡ regions_after origin wide }
+{
+    match origin {
+        Origin::Fresh | Origin::Lines => 16,
+        Origin::Dump | Origin::Dumps => most_regions(wide),
+    }
+}
+
+// Returns the largest number of regions of a heap that is wide, or isn't.
+fn most_regions(wide: bool) -> u64
+    ensures { result ≡ most_regions wide }
+{
+    in_heap(REGIONS, wide).most
+}
+
+// Returns what is run before the session of a task.
+fn origin_of(task: Task) -> Origin
+    ensures { result ≡ origin_of task }
+{
+    match task {
+        Task::Run(origin) | Task::Explore { origin, .. } | Task::Draw(origin) => origin,
+        Task::Serve(service) => service.origin,
+        _ => Origin::Fresh,
     }
 }
 
@@ -357,26 +404,18 @@ fn usual_keep(task: Task, wide: bool) -> u64
 fn most_kept(wide: bool) -> u64
     ensures { result ≡ most_kept wide }
 {
-    if wide { KEEP_LIMIT } else { NARROW_KEEP }
+    in_heap(KEEP, wide).most
 }
 
-// Returns the mistake of steps to keep that are out of the range of a heap that is wide, or isn't.
-fn keep_mistake(wide: bool) -> Mistake
-    ensures { result ≡ keep_mistake wide }
+// Returns the size of identifiers that the options give, or the mistake in it.
+fn id_size_from(options: &ArgMatches<'_>) -> Result<IdSize, Mistake>
+    ensures { IsReadOrMistake id_size_in (rows_of (found_of options.now)) result }
 {
-    if wide {
-        Mistake::WideKeep
-    } else {
-        Mistake::Keep
+    let bytes = number_of(options, IDS)?;
+    match id_size(bytes) {
+        Some(size) => Ok(size),
+        None => Err(Mistake::Value(IDS)),
     }
-}
-
-// Returns the size of identifiers that the options give, or None if it is out of its range.
-fn id_size_from(options: &ArgMatches<'_>) -> Option<IdSize>
-    ensures { result ≡ id_size_in (rows_of (found_of options.now)) }
-{
-    let bytes = option_value(options, "ids", 8, 4, 8)?;
-    id_size(bytes)
 }
 
 // Returns the size of an identifier of `bytes` bytes, or None if they are neither 4 nor 8.
@@ -395,8 +434,8 @@ fn settings_with_area(settings: Settings, options: &ArgMatches<'_>) -> Result<Se
     requires wide { wide_in (rows_of (found_of options.now)) ≡ Some settings.wide }
     requires regions { regions_in settings.task settings.wide (rows_of (found_of options.now))
         ≡ Some settings.regions }
-    ensures { IsValueOrMistake (with_area_in (rows_of (found_of options.now)) settings)
-        (λ m. IsMistakeIn m (rows_of (found_of options.now))) result }
+    ensures { IsReadOrMistake (λ rows. with_area_in rows settings)
+        (rows_of (found_of options.now)) result }
 {
     let Settings {
         task,
@@ -405,9 +444,9 @@ fn settings_with_area(settings: Settings, options: &ArgMatches<'_>) -> Result<Se
         ..
     } = settings;
     let usual = area_default(task, wide, regions);
-    match option_size(options, "area", usual, 0, most_area(wide, regions)) {
+    match option_size(options, AREA.name, usual, 0, most_area(wide, regions)) {
         Some(area) => Ok(Settings { area, ..settings }),
-        None => Err(area_mistake(wide)),
+        None => Err(Mistake::Rule(area_rule(wide))),
     }
 }
 
@@ -435,14 +474,14 @@ fn most_area(wide: bool, regions: u64) -> u64
     if wide { regions.saturating_sub(1) } else { 0 }
 }
 
-// Returns the mistake of an area that is out of the range of a heap that is wide, or isn't.
-fn area_mistake(wide: bool) -> Mistake
-    ensures { result ≡ area_mistake wide }
+// Returns what is said of an area that a heap can't have that is wide, or isn't.
+fn area_rule(wide: bool) -> &'static str
+    ensures { result.now ≡ area_rule wide }
 {
     if wide {
-        Mistake::WideArea
+        "--area takes 0 to one less than the number of --regions"
     } else {
-        Mistake::Area
+        "--area takes 0 without --wide 1"
     }
 }
 
@@ -466,28 +505,22 @@ pub fn path_option<'a>(alloc: Global, words: &'a [&'a str], name: &str) -> Optio
     }
 }
 
-// Returns whether an option is given as 1, or None if it is out of its range.
-pub(crate) fn flag_from(options: &ArgMatches<'_>, name: &str) -> Option<bool>
-    ensures { result ≡ flag_in name.now (rows_of (found_of options.now)) }
+// Returns whether an option is given as 1, or the mistake in it.
+pub(crate) fn flag_from(options: &ArgMatches<'_>, row: OptionRow) -> Result<bool, Mistake>
+    requires flag { row_numbers row ≡ flag_numbers row.name.now }
+    requires number { option_named row.name.now number_options ≡ Some (row_numbers row) }
+    ensures { IsReadOrMistake (flag_in row.name.now) (rows_of (found_of options.now)) result }
 {
-    let number = option_value(options, name, 0, 0, 1)?;
-    Some(number == 1)
+    let number = number_of(options, row)?;
+    Ok(number == 1)
 }
 
-// Returns the value of an option, `default` if it isn't given, or None if it isn't from `least` to `most`.
-pub(crate) fn option_value(
-    options: &ArgMatches<'_>,
-    name: &str,
-    default: u64,
-    least: u64,
-    most: u64,
-) -> Option<u64>
-    ensures { result ≡ option_value name.now default least most (rows_of (found_of options.now)) }
+// Returns the number that an option is given, its row's default if it isn't given, or the mistake in it.
+pub(crate) fn number_of(options: &ArgMatches<'_>, row: OptionRow) -> Result<u64, Mistake>
+    requires { option_named row.name.now number_options ≡ Some (row_numbers row) }
+    ensures { IsReadOrMistake (value_in (row_numbers row)) (rows_of (found_of options.now)) result }
 {
-    match options.get_str(name) {
-        Some(text) => number(text, least, most),
-        None => Some(default),
-    }
+    number_or(options, row, row.default)
 }
 
 // Returns the number that a text of digits alone writes, or None if it isn't from `least` to `most` or the text is another.

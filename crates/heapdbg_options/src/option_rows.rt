@@ -7,15 +7,31 @@ ghost use Rattle.heapdbg_options.specs.Parsers.{AddsCommand, IsParserOf, line_of
 use clap::{Arg, ArgAction, Command};
 use std::alloc::{AllocError, Global};
 
-// An option `--NAME VALUE`: its name, what help calls its value, its help, whether it has to be given, and whether it is a flag:
-// `--NAME` without a value is `--NAME 1`.
+// An option `--NAME VALUE`, and what it takes. One that takes no number has 0 for all its numbers.
 #[derive(Clone, Copy)]
 pub(crate) struct OptionRow {
+    // The name, without `--`.
     pub(crate) name: &'static str,
+    // What help calls its value.
     pub(crate) value: &'static str,
+    // Its help.
     pub(crate) help: &'static str,
+    // Whether it has to be given.
     pub(crate) is_required: bool,
+    // Whether it is a flag: `--NAME` without a value is `--NAME 1`.
     pub(crate) is_flag: bool,
+    // Its value if it isn't given, unless that depends on other options.
+    pub(crate) default: u64,
+    // The least number that it takes.
+    pub(crate) least: u64,
+    // What stands between the least and the largest number where both are told.
+    pub(crate) joint: &'static str,
+    // The largest number that it takes, in a heap that isn't wide.
+    pub(crate) most: u64,
+    // The largest number that it takes in a wide heap.
+    pub(crate) wide_most: u64,
+    // What is told behind the numbers if it takes one.
+    pub(crate) but: &'static str,
 }
 
 // A command: its name, what help says about it, the usage that help shows if that is another than clap's, and its options.
@@ -27,122 +43,215 @@ pub(crate) struct CommandRow {
     pub(crate) options: &'static [OptionRow],
 }
 
+// Writes the row of an option that takes a number: its name, what help calls its value and says of it, its least and largest number
+// with what joins them, its default, and what else help says.
+macro_rules! number_row {
+    (
+        $name:literal, $value:literal, $about:literal, $least:literal $joint:literal $most:literal,
+        $default:literal, $rest:literal
+    ) => {
+        OptionRow {
+            name: $name,
+            value: $value,
+            help: concat!($about, ", ", $least, $joint, $most, $rest),
+            is_required: false,
+            is_flag: false,
+            default: $default,
+            least: $least,
+            joint: $joint,
+            most: $most,
+            wide_most: $most,
+            but: "",
+        }
+    };
+}
+
+// Writes the row of an option that takes a size, whose largest is another in a wide heap: its name, what help says of it, its least
+// and its two largest numbers, and what else help says. Its default depends on other options.
+macro_rules! size_row {
+    (
+        $name:literal, $about:literal, $least:literal to $most:literal to $wide_most:literal,
+        $rest:literal
+    ) => {
+        OptionRow {
+            name: $name,
+            value: "N",
+            help: concat!(
+                $about, ", ", $least, " to ", $most, ", or to ", $wide_most, " with --wide 1",
+                $rest
+            ),
+            is_required: false,
+            is_flag: false,
+            default: 0,
+            least: $least,
+            joint: " to ",
+            most: $most,
+            wide_most: $wide_most,
+            but: "",
+        }
+    };
+}
+
+// Writes the row of an option that takes a port: its name, what help says of it and what else, and what is told behind the numbers.
+macro_rules! port_row {
+    ($name:literal, $about:literal, $rest:literal, $but:literal) => {
+        OptionRow {
+            name: $name,
+            value: "N",
+            help: concat!($about, ", ", 1, " to ", 65535, $rest),
+            is_required: false,
+            is_flag: false,
+            default: 0,
+            least: 1,
+            joint: " to ",
+            most: 65535,
+            wide_most: 65535,
+            but: $but,
+        }
+    };
+}
+
+// Writes the row of an option `--NAME [N]`: its name, what help says of it, what it says of 0 and 1, and what of the default.
+macro_rules! flag_row {
+    ($name:literal, $about:literal, $of:literal, $rest:literal) => {
+        OptionRow {
+            name: $name,
+            value: "N",
+            help: concat!($about, ", ", 0, " or ", 1, $of, " [default: ", 0, $rest, "]"),
+            is_required: false,
+            is_flag: true,
+            default: 0,
+            least: 0,
+            joint: " or ",
+            most: 1,
+            wide_most: 1,
+            but: "",
+        }
+    };
+}
+
+// Writes the row of an option that takes no number of a range of its own: its name, what help calls its value, and its help.
+macro_rules! plain_row {
+    ($name:literal, $value:literal, $help:literal) => {
+        OptionRow {
+            name: $name,
+            value: $value,
+            help: $help,
+            is_required: false,
+            is_flag: false,
+            default: 0,
+            least: 0,
+            joint: "",
+            most: 0,
+            wide_most: 0,
+            but: "",
+        }
+    };
+}
+
+// Writes the row of `--regions N`, and of `--keep N`, with what its help says of the default.
+macro_rules! regions_row {
+    ($rest:literal) => { size_row!("regions", "Regions of the heap", 1 to 256 to 65536, $rest) };
+}
+
+macro_rules! keep_row {
+    ($rest:literal) => {
+        size_row!("keep", "Steps that can be undone", 1 to 65536 to 16777216, $rest)
+    };
+}
+
 // The option `--regions N`.
-pub(crate) const REGIONS: OptionRow = OptionRow {
-    name: "regions",
-    value: "N",
-    help: "Regions of the heap, 1 to 256, or to 65536 with --wide 1 [default: 16]",
-    is_required: false,
-    is_flag: false,
-};
+pub(crate) const REGIONS: OptionRow = regions_row!(" [default: 16]");
 
 // The option `--mutators N`.
-pub(crate) const MUTATORS: OptionRow = OptionRow {
-    name: "mutators",
-    value: "N",
-    help: "Mutators of the heap, 1 to 16 [default: 2]",
-    is_required: false,
-    is_flag: false,
-};
+pub(crate) const MUTATORS: OptionRow = number_row!(
+    "mutators", "N", "Mutators of the heap", 1 " to " 16, 2, " [default: 2]"
+);
 
 // The option `--keep N`.
-pub(crate) const KEEP: OptionRow = OptionRow {
-    name: "keep",
-    value: "N",
-    help: "Steps that can be undone, 1 to 65536, or to 16777216 with --wide 1 [default: 1024]",
-    is_required: false,
-    is_flag: false,
-};
+pub(crate) const KEEP: OptionRow = keep_row!(" [default: 1024]");
 
 // The option `--wide [N]`.
-pub(crate) const WIDE: OptionRow = OptionRow {
-    name: "wide",
-    value: "N",
-    help: "Whether the heap has wider limits, of classes, names and pins too, 0 or 1 [default: 0]",
-    is_required: false,
-    is_flag: true,
-};
+pub(crate) const WIDE: OptionRow = flag_row!(
+    "wide",
+    "Whether the heap has wider limits, of classes, names and pins too",
+    "",
+    ""
+);
 
 // The option `--area N`.
-pub(crate) const AREA: OptionRow = OptionRow {
-    name: "area",
-    value: "N",
-    help: "Last regions of the heap, which hold arrays of more than 1024 elements, fewer than all; with --wide 1 alone [default: 0]",
-    is_required: false,
-    is_flag: false,
-};
+pub(crate) const AREA: OptionRow = plain_row!(
+    "area",
+    "N",
+    "Last regions of the heap, which hold arrays of more than 1024 elements, fewer than all; with --wide 1 alone [default: 0]"
+);
 
 // The option `--time N`.
 pub(crate) const TIME: OptionRow = OptionRow {
-    name: "time",
-    value: "N",
-    help: "Milliseconds since 1970 in the header of a dump [default: 0]",
-    is_required: false,
-    is_flag: false,
+    joint: " to ",
+    most: 18446744073709551615,
+    ..TIME_OF_DUMP
 };
+
+// The option `--time N` without its range, of which help says nothing.
+const TIME_OF_DUMP: OptionRow = plain_row!(
+    "time",
+    "N",
+    "Milliseconds since 1970 in the header of a dump [default: 0]"
+);
 
 // The option `--ids N`.
-pub(crate) const IDS: OptionRow = OptionRow {
-    name: "ids",
-    value: "N",
-    help: "Bytes of an identifier in a dump, 4 or 8 [default: 8]",
-    is_required: false,
-    is_flag: false,
-};
+pub(crate) const IDS: OptionRow = number_row!(
+    "ids", "N", "Bytes of an identifier in a dump", 4 " or " 8, 8, " [default: 8]"
+);
 
 // The option `--quiet [N]`.
-pub(crate) const QUIET: OptionRow = OptionRow {
-    name: "quiet",
-    value: "N",
-    help: "Whether no progress is shown on a terminal, 0 or 1 [default: 0]",
-    is_required: false,
-    is_flag: true,
-};
+pub(crate) const QUIET: OptionRow = flag_row!(
+    "quiet",
+    "Whether no progress is shown on a terminal",
+    "",
+    ""
+);
 
 // The option `--questions [N]`.
-pub(crate) const QUESTIONS: OptionRow = OptionRow {
-    name: "questions",
-    value: "N",
-    help: "Whether questions are answered, 0 or 1 [default: 0]",
-    is_required: false,
-    is_flag: true,
-};
+pub(crate) const QUESTIONS: OptionRow = flag_row!(
+    "questions",
+    "Whether questions are answered",
+    "",
+    ""
+);
 
 // The option `--page N`.
-pub(crate) const PAGE: OptionRow = OptionRow {
-    name: "page",
-    value: "N",
-    help: "Port on 127.0.0.1 of a page that shows the heap to a browser, 1 to 65535 [default: none]",
-    is_required: false,
-    is_flag: false,
-};
+pub(crate) const PAGE: OptionRow = port_row!(
+    "page",
+    "Port on 127.0.0.1 of a page that shows the heap to a browser",
+    " [default: none]",
+    ""
+);
 
 // The option `--secret PATH`.
-pub(crate) const SECRET: OptionRow = OptionRow {
-    name: "secret",
-    value: "PATH",
-    help: "File with the word that each client has to send first [default: none]",
-    is_required: false,
-    is_flag: false,
-};
+pub(crate) const SECRET: OptionRow = plain_row!(
+    "secret",
+    "PATH",
+    "File with the word that each client has to send first [default: none]"
+);
 
 // The option `--regions N` of a command that takes a dump.
-pub(crate) const DUMP_REGIONS: OptionRow = OptionRow {
-    help: "Regions of the heap, 1 to 256, or to 65536 with --wide 1 [default: 16, or with --hprof the most]",
-    ..REGIONS
-};
+pub(crate) const DUMP_REGIONS: OptionRow = regions_row!(" [default: 16, or with --hprof the most]");
 
 // The option `--keep N` of a command that takes a dump, but of `explore`.
-pub(crate) const DUMP_KEEP: OptionRow = OptionRow {
-    help: "Steps that can be undone, 1 to 65536, or to 16777216 with --wide 1 [default: 1024, or with --hprof 65536]",
-    ..KEEP
-};
+pub(crate) const DUMP_KEEP: OptionRow = keep_row!(" [default: 1024, or with --hprof 65536]");
+
+// The option `--keep N` of `explore`.
+pub(crate) const EXPLORE_KEEP: OptionRow = keep_row!(" [default: the most, or with --hprof 65536]");
 
 // The option `--wide [N]` of a command that takes a dump.
-pub(crate) const DUMP_WIDE: OptionRow = OptionRow {
-    help: "Whether the heap has wider limits, of classes, names and pins too, 0 or 1 [default: 0, or with --hprof 1]",
-    ..WIDE
-};
+pub(crate) const DUMP_WIDE: OptionRow = flag_row!(
+    "wide",
+    "Whether the heap has wider limits, of classes, names and pins too",
+    "",
+    ", or with --hprof 1"
+);
 
 // The option `--area N` of a command that takes a dump.
 pub(crate) const DUMP_AREA: OptionRow = OptionRow {
@@ -151,13 +260,114 @@ pub(crate) const DUMP_AREA: OptionRow = OptionRow {
 };
 
 // The option `--hprof PATH`.
-pub(crate) const HPROF: OptionRow = OptionRow {
-    name: "hprof",
-    value: "PATH",
-    help: "File of a heap dump in HPROF, whose heap is made first",
-    is_required: false,
-    is_flag: false,
+pub(crate) const HPROF: OptionRow = plain_row!(
+    "hprof",
+    "PATH",
+    "File of a heap dump in HPROF, whose heap is made first"
+);
+
+// The option `--from PATH`.
+pub(crate) const FROM: OptionRow = plain_row!(
+    "from",
+    "PATH",
+    "File of lines that are run first; their replies are not shown"
+);
+
+// The option `--then PATH`.
+pub(crate) const THEN: OptionRow = plain_row!(
+    "then",
+    "PATH",
+    "File of a later heap dump of the same program: pin 1 keeps the heap of --hprof, out of which the heap of this dump is made; only with --hprof"
+);
+
+// The option `--out PATH`.
+pub(crate) const OUT: OptionRow = plain_row!(
+    "out",
+    "PATH",
+    "File that the last state is dumped to; if not given, --to is required"
+);
+
+// The option `--out PATH` of `fetch`, which has to be given.
+pub(crate) const NEEDED_OUT: OptionRow = OptionRow {
+    help: "File that the dump goes to",
+    is_required: true,
+    ..OUT
 };
+
+// The option `--port N` of a command that needs it.
+pub(crate) const PORT: OptionRow = OptionRow {
+    is_required: true,
+    ..SERVED_PORT
+};
+
+// The option `--port N` of a command that needs it, but for this need.
+const SERVED_PORT: OptionRow = port_row!("port", "Port on 127.0.0.1", "", "");
+
+// The option `--port N` of `explore`.
+pub(crate) const ASKED_PORT: OptionRow = port_row!(
+    "port",
+    "Port on 127.0.0.1 of a heap that is served, to ask about that",
+    "; not with --from, --hprof or --page",
+    ""
+);
+
+// The option `--to N`.
+pub(crate) const TO: OptionRow = port_row!(
+    "to",
+    "Port on 127.0.0.1 that the last state is dumped to",
+    "; if not given, --out is required",
+    ""
+);
+
+// The option `--sessions N`.
+pub(crate) const SESSIONS: OptionRow = number_row!(
+    "sessions", "N", "Sessions over the one heap, in all or with --stay 1 at a time", 1 " to " 1000,
+    1, " [default: 1]"
+);
+
+// The option `--workers [N]`.
+pub(crate) const WORKERS: OptionRow = flag_row!(
+    "workers",
+    "Threads that mark, and threads that sweep",
+    " of each",
+    ""
+);
+
+// The option `--dumps N`.
+pub(crate) const DUMPS: OptionRow = port_row!(
+    "dumps",
+    "Port on 127.0.0.1 that sends a dump to each client",
+    " [default: none]",
+    ", and not the number of --port"
+);
+
+// The option `--page N` of `serve`.
+pub(crate) const SERVED_PAGE: OptionRow = OptionRow {
+    but: ", and not the number of --port or --dumps",
+    ..PAGE
+};
+
+// The option `--roll [N]`.
+pub(crate) const ROLL: OptionRow = flag_row!(
+    "roll",
+    "Whether the heap drops old acts in place of refusing new ones",
+    "",
+    ""
+);
+
+// The option `--stay [N]`.
+pub(crate) const STAY: OptionRow = flag_row!(
+    "stay",
+    "Whether the heap is served until it is ended from outside, and drops old acts",
+    "",
+    ""
+);
+
+// The option `--idle SECONDS`.
+pub(crate) const IDLE: OptionRow = number_row!(
+    "idle", "SECONDS", "Seconds without input after which a session is ended", 1 " to " 86400, 0,
+    " [default: none]"
+);
 
 // Returns the parser with the commands of these rows added in turn.
 pub(crate) fn with_commands<'a>(

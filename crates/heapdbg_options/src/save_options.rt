@@ -2,10 +2,10 @@
 ghost use Rattle.std.specs.Prelude.{option_map};
 ghost use Rattle.clap.specs.Words.{found_of, rows_of};
 ghost use Rattle.heapdbg_options.specs.CommandLine.{save_in, target_in};
-ghost use Rattle.heapdbg_options.specs.Refusals.{IsChoiceOrMistake, IsTargetMistake, IsTaskOrMistake};
+ghost use Rattle.heapdbg_options.specs.Refusals.{IsChoiceOrMistake, IsTargetMistake, IsReadOrMistake};
 
 use crate::option_rows::{
-    AREA, CommandRow, IDS, KEEP, MUTATORS, OptionRow, QUESTIONS, QUIET, REGIONS, TIME, WIDE,
+    AREA, CommandRow, IDS, KEEP, MUTATORS, OUT, QUESTIONS, QUIET, REGIONS, TIME, TO, WIDE,
 };
 use crate::refusal::Mistake;
 use crate::settings::{Target, Task};
@@ -18,35 +18,16 @@ pub(crate) const SAVE: CommandRow = CommandRow {
     about: "Runs a session, and dumps the state that it leaves; one of --out and --to is required",
     usage: Some("heapdbg save [OPTIONS] <--out <PATH>|--to <N>>"),
     options: &[
-        REGIONS,
-        MUTATORS,
-        KEEP,
-        WIDE,
-        AREA,
-        TIME,
-        IDS,
-        QUIET,
-        OptionRow {
-            name: "out",
-            value: "PATH",
-            help: "File that the last state is dumped to; if not given, --to is required",
-            is_required: false,
-            is_flag: false,
-        },
-        OptionRow {
-            name: "to",
-            value: "N",
-            help: "Port on 127.0.0.1 that the last state is dumped to, 1 to 65535; if not given, --out is required",
-            is_required: false,
-            is_flag: false,
-        },
-        QUESTIONS,
+        REGIONS, MUTATORS, KEEP, WIDE, AREA, TIME, IDS, QUIET, OUT, TO, QUESTIONS,
     ],
 };
 
+// The rule on the two places.
+const ONE_PLACE: &str = "save takes one of --out and --to";
+
 // Returns the task of the options of `save`: one of the two places has to be given.
 pub(crate) fn save_task(options: &ArgMatches<'_>) -> Result<Task, Mistake>
-    ensures { IsTaskOrMistake save_in (rows_of (found_of options.now)) result }
+    ensures { IsReadOrMistake save_in (rows_of (found_of options.now)) result }
 {
     let path = options.get_str("out");
     let port = options.get_str("to");
@@ -63,15 +44,15 @@ fn target(path: Option<&str>, port: Option<&str>) -> Result<Target, Mistake>
 {
     match path {
         Some(_) => match port {
-            Some(_) => Err(Mistake::Place),
+            Some(_) => Err(Mistake::Rule(ONE_PLACE)),
             None => Ok(Target::Out),
         },
         None => match port {
             Some(text) => match port_of(text) {
                 Some(port) => Ok(Target::To(port)),
-                None => Err(Mistake::To),
+                None => Err(Mistake::Value(TO)),
             },
-            None => Err(Mistake::Place),
+            None => Err(Mistake::Rule(ONE_PLACE)),
         },
     }
 }

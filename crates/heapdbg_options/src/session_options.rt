@@ -1,15 +1,15 @@
 //! The command lines of the tasks between standard input and standard output.
 ghost use Rattle.std.specs.Prelude.{◌≡◌, Some, option_map, true};
 ghost use Rattle.clap.specs.Words.{found_of, rows_of};
-ghost use Rattle.heapdbg_options.specs.CommandLine.{draw_in, dump_origin, explore_in, has_second, origin_in, own_page, port_limit, run_in, second_task};
-ghost use Rattle.heapdbg_options.specs.Refusals.{IsExploreOrMistake, IsOutside, IsTaskOrMistake, IsValueOrMistake};
-ghost use Rattle.heapdbg_options.specs.declared.refusal.Mistake.TheVariants.{OwnPage, Second};
+ghost use Rattle.heapdbg_options.specs.CommandLine.{draw_in, dump_origin, explore_in, has_second, origin_in, own_page, run_in, second_task};
+ghost use Rattle.heapdbg_options.specs.Numbers.{page_numbers, port_limit, taken_text};
+ghost use Rattle.heapdbg_options.specs.Refusals.{IsExploreOrMistake, IsOutside, IsReadOrMistake, IsValueOrMistake, second_rule};
 ghost use Rattle.heapdbg_options.specs.declared.settings.Task.TheVariants.{Explore};
 
 use crate::command_line::has_dump;
 use crate::option_rows::{
-    CommandRow, DUMP_AREA, DUMP_KEEP, DUMP_REGIONS, DUMP_WIDE, HPROF, IDS, KEEP, MUTATORS,
-    OptionRow, PAGE, QUESTIONS, QUIET, TIME,
+    ASKED_PORT, CommandRow, DUMP_AREA, DUMP_KEEP, DUMP_REGIONS, DUMP_WIDE, EXPLORE_KEEP, FROM,
+    HPROF, IDS, MUTATORS, NEEDED_OUT, OptionRow, PAGE, QUESTIONS, QUIET, SECRET, THEN, TIME,
 };
 use crate::refusal::Mistake;
 use crate::settings::{Origin, Task};
@@ -43,47 +43,23 @@ pub(crate) const EXPLORE: CommandRow = CommandRow {
     options: &[
         DUMP_REGIONS,
         MUTATORS,
-        OptionRow {
-            help: "Steps that can be undone, 1 to 65536, or to 16777216 with --wide 1 [default: the most, or with --hprof 65536]",
-            ..KEEP
-        },
+        EXPLORE_KEEP,
         DUMP_WIDE,
         DUMP_AREA,
         TIME,
         IDS,
         QUIET,
-        OptionRow {
-            name: "from",
-            value: "PATH",
-            help: "File of lines that are run first; their replies are not shown",
-            is_required: false,
-            is_flag: false,
-        },
+        FROM,
         OptionRow {
             help: "File of a heap dump in HPROF, whose heap is made first; not with --from",
             ..HPROF
         },
-        OptionRow {
-            name: "then",
-            value: "PATH",
-            help: "File of a later heap dump of the same program: pin 1 keeps the heap of --hprof, out of which the heap of this dump is made; only with --hprof",
-            is_required: false,
-            is_flag: false,
-        },
-        OptionRow {
-            name: "port",
-            value: "N",
-            help: "Port on 127.0.0.1 of a heap that is served, to ask about that, 1 to 65535; not with --from, --hprof or --page",
-            is_required: false,
-            is_flag: false,
-        },
+        THEN,
+        ASKED_PORT,
         PAGE,
         OptionRow {
-            name: "secret",
-            value: "PATH",
             help: "File with the word that the heap at --port has to be sent first; only with --port",
-            is_required: false,
-            is_flag: false,
+            ..SECRET
         },
     ],
 };
@@ -103,11 +79,8 @@ pub(crate) const DRAW: CommandRow = CommandRow {
         IDS,
         QUIET,
         OptionRow {
-            name: "out",
-            value: "PATH",
             help: "File that the picture goes to, as SVG",
-            is_required: true,
-            is_flag: false,
+            ..NEEDED_OUT
         },
         HPROF,
     ],
@@ -137,7 +110,7 @@ pub(crate) fn draw_task(options: &ArgMatches<'_>) -> Task
 // Returns the task of the options of `explore`, or the mistake in them: the session is over a heap of its own, or the questions
 // are about a heap that is served.
 pub(crate) fn explore_task(options: &ArgMatches<'_>) -> Result<Task, Mistake>
-    ensures { IsTaskOrMistake explore_in (rows_of (found_of options.now)) result }
+    ensures { IsReadOrMistake explore_in (rows_of (found_of options.now)) result }
 {
     let from = options.get_str("from");
     let hprof = options.get_str("hprof");
@@ -164,19 +137,19 @@ fn choose_task(
 {
     let Some(text) = port else {
         if secret {
-            return Err(Mistake::Secret);
+            return Err(Mistake::Rule("explore takes --secret with --port alone"));
         }
         let Some(origin) = origin_in(from.is_some(), hprof.is_some()) else {
-            return Err(Mistake::Origin);
+            return Err(Mistake::Rule("explore takes --from without --hprof"));
         };
         return own_task(origin, page);
     };
     if from.is_some() || hprof.is_some() || page.is_some() {
-        return Err(Mistake::Source);
+        return Err(Mistake::Rule("explore takes --port without --from, --hprof and --page"));
     }
     match port_of(text) {
         Some(port) => Ok(Task::Ask { port, secret }),
-        None => Err(Mistake::Port),
+        None => Err(Mistake::Value(ASKED_PORT)),
     }
 }
 
@@ -196,7 +169,8 @@ fn origin_in(from: bool, hprof: bool) -> Option<Origin>
 fn own_task(origin: Origin, page: Option<&str>) -> Result<Task, Mistake>
     ensures { IsValueOrMistake
         (option_map (λ p. Explore origin p) (own_page (option_map (λ s. s.now) page.entry)))
-        (λ m. (m ≡ OwnPage) × IsOutside 1 port_limit (option_map (λ s. s.now) page.entry)) result }
+        (λ said. (said ≡ taken_text page_numbers)
+        × IsOutside 1 port_limit (option_map (λ s. s.now) page.entry)) result }
 {
     let Some(text) = page else {
         return Ok(Task::Explore { origin, page: None });
@@ -206,14 +180,17 @@ fn own_task(origin: Origin, page: Option<&str>) -> Result<Task, Mistake>
             let page = Some(port);
             Ok(Task::Explore { origin, page })
         }
-        None => Err(Mistake::OwnPage),
+        None => Err(Mistake::Value(PAGE)),
     }
 }
+
+// The rule on a second dump.
+const SECOND_RULE: &str = "explore takes --then with --hprof alone";
 
 // Returns the task of `explore`, in which the session of two dumps is run first if a second one is given.
 fn second_task(second: bool, task: Task) -> Result<Task, Mistake>
     ensures { IsValueOrMistake (second_task second task)
-        (λ m. (m ≡ Second) × (second ≡ true)) result }
+        (λ said. (said ≡ second_rule) × (second ≡ true)) result }
 {
     if !second {
         return Ok(task);
@@ -224,16 +201,16 @@ fn second_task(second: bool, task: Task) -> Result<Task, Mistake>
                 let origin = Origin::Dumps;
                 Ok(Task::Explore { origin, page })
             }
-            Origin::Fresh => Err(Mistake::Second),
-            Origin::Lines => Err(Mistake::Second),
-            Origin::Dumps => Err(Mistake::Second),
+            Origin::Fresh => Err(Mistake::Rule(SECOND_RULE)),
+            Origin::Lines => Err(Mistake::Rule(SECOND_RULE)),
+            Origin::Dumps => Err(Mistake::Rule(SECOND_RULE)),
         },
-        Task::Run(_) => Err(Mistake::Second),
-        Task::Draw(_) => Err(Mistake::Second),
-        Task::Save(_) => Err(Mistake::Second),
-        Task::Serve(_) => Err(Mistake::Second),
-        Task::Ask { port: _, secret: _ } => Err(Mistake::Second),
-        Task::Fetch { port: _, secret: _ } => Err(Mistake::Second),
+        Task::Run(_) => Err(Mistake::Rule(SECOND_RULE)),
+        Task::Draw(_) => Err(Mistake::Rule(SECOND_RULE)),
+        Task::Save(_) => Err(Mistake::Rule(SECOND_RULE)),
+        Task::Serve(_) => Err(Mistake::Rule(SECOND_RULE)),
+        Task::Ask { port: _, secret: _ } => Err(Mistake::Rule(SECOND_RULE)),
+        Task::Fetch { port: _, secret: _ } => Err(Mistake::Rule(SECOND_RULE)),
     }
 }
 

@@ -1,39 +1,19 @@
 //! The command lines of the tasks over sockets.
 ghost use Rattle.std.specs.Prelude.{◌≡◌, codes, option_and_then};
 ghost use Rattle.clap.specs.Words.{first_of, found_of, rows_of};
-ghost use Rattle.heapdbg_options.specs.CommandLine.{ask_in, dumps_with, fetch_in, has_secret, number_in, other_port, page_with, port_in, port_limit, serve_in, third_port};
-ghost use Rattle.heapdbg_options.specs.Refusals.{IsTaskOrMistake};
+ghost use Rattle.heapdbg_options.specs.CommandLine.{ask_in, dumps_with, fetch_in, has_secret, number_in, other_port, page_with, port_in, serve_in, third_port};
+ghost use Rattle.heapdbg_options.specs.Numbers.{port_limit};
+ghost use Rattle.heapdbg_options.specs.Refusals.{IsReadOrMistake};
 
-use crate::command_line::{flag_from, has_dump, number, option_value};
+use crate::command_line::{flag_from, has_dump, number, number_of};
 use crate::option_rows::{
-    CommandRow, DUMP_AREA, DUMP_KEEP, DUMP_REGIONS, DUMP_WIDE, HPROF, IDS, MUTATORS, OptionRow,
-    PAGE, QUESTIONS, QUIET, SECRET, TIME,
+    CommandRow, DUMP_AREA, DUMP_KEEP, DUMP_REGIONS, DUMP_WIDE, DUMPS, HPROF, IDLE, IDS, MUTATORS,
+    NEEDED_OUT, PORT, QUESTIONS, QUIET, ROLL, SECRET, SERVED_PAGE, SESSIONS, STAY, TIME, WORKERS,
 };
 use crate::refusal::Mistake;
 use crate::session_options::dump_origin;
 use crate::settings::{Service, Task};
 use clap::ArgMatches;
-
-// The highest port.
-const PORT_LIMIT: u64 = 65535;
-
-// The largest number of sessions.
-const SESSION_LIMIT: u64 = 1000;
-
-// The largest number of markers, and of sweepers.
-const WORKER_LIMIT: u64 = 1;
-
-// The largest number of seconds after which a session is ended: a day.
-const IDLE_LIMIT: u64 = 86400;
-
-// The option `--port N`, which has to be given.
-const PORT: OptionRow = OptionRow {
-    name: "port",
-    value: "N",
-    help: "Port on 127.0.0.1, 1 to 65535",
-    is_required: true,
-    is_flag: false,
-};
 
 // The command `serve`.
 pub(crate) const SERVE: CommandRow = CommandRow {
@@ -50,50 +30,14 @@ pub(crate) const SERVE: CommandRow = CommandRow {
         IDS,
         QUIET,
         PORT,
-        OptionRow {
-            name: "sessions",
-            value: "N",
-            help: "Sessions over the one heap, in all or with --stay 1 at a time, 1 to 1000 [default: 1]",
-            is_required: false,
-            is_flag: false,
-        },
-        OptionRow {
-            name: "workers",
-            value: "N",
-            help: "Threads that mark, and threads that sweep, 0 or 1 of each [default: 0]",
-            is_required: false,
-            is_flag: true,
-        },
-        OptionRow {
-            name: "dumps",
-            value: "N",
-            help: "Port on 127.0.0.1 that sends a dump to each client, 1 to 65535 [default: none]",
-            is_required: false,
-            is_flag: false,
-        },
-        PAGE,
+        SESSIONS,
+        WORKERS,
+        DUMPS,
+        SERVED_PAGE,
         QUESTIONS,
-        OptionRow {
-            name: "roll",
-            value: "N",
-            help: "Whether the heap drops old acts in place of refusing new ones, 0 or 1 [default: 0]",
-            is_required: false,
-            is_flag: true,
-        },
-        OptionRow {
-            name: "stay",
-            value: "N",
-            help: "Whether the heap is served until it is ended from outside, and drops old acts, 0 or 1 [default: 0]",
-            is_required: false,
-            is_flag: true,
-        },
-        OptionRow {
-            name: "idle",
-            value: "SECONDS",
-            help: "Seconds without input after which a session is ended, 1 to 86400 [default: none]",
-            is_required: false,
-            is_flag: false,
-        },
+        ROLL,
+        STAY,
+        IDLE,
         SECRET,
         HPROF,
     ],
@@ -112,45 +56,24 @@ pub(crate) const FETCH: CommandRow = CommandRow {
     name: "fetch",
     about: "Fetches a dump of a heap that is served",
     usage: None,
-    options: &[
-        PORT,
-        OptionRow {
-            name: "out",
-            value: "PATH",
-            help: "File that the dump goes to",
-            is_required: true,
-            is_flag: false,
-        },
-        SECRET,
-        QUIET,
-    ],
+    options: &[PORT, NEEDED_OUT, SECRET, QUIET],
 };
 
 // Returns the task of the options of `serve`, or the mistake in them.
 pub(crate) fn serve_task(options: &ArgMatches<'_>) -> Result<Task, Mistake>
-    ensures { IsTaskOrMistake serve_in (rows_of (found_of options.now)) result }
+    ensures { IsReadOrMistake serve_in (rows_of (found_of options.now)) result }
 {
-    let Some(port) = port(options) else {
-        return Err(Mistake::Port);
-    };
-    let Some(sessions) = option_value(options, "sessions", 1, 1, SESSION_LIMIT) else {
-        return Err(Mistake::Sessions);
-    };
-    let Some(workers) = option_value(options, "workers", 0, 0, WORKER_LIMIT) else {
-        return Err(Mistake::Workers);
-    };
+    let port = port(options)?;
+    let sessions = number_of(options, SESSIONS)?;
+    let workers = number_of(options, WORKERS)?;
     let Some(dumps) = dumps(options, port) else {
-        return Err(Mistake::Dumps);
+        return Err(Mistake::Value(DUMPS));
     };
     let Some(page) = page(options, port, dumps) else {
-        return Err(Mistake::Page);
+        return Err(Mistake::Value(SERVED_PAGE));
     };
-    let Some(idle) = option_value(options, "idle", 0, 1, IDLE_LIMIT) else {
-        return Err(Mistake::Idle);
-    };
-    let Some(stays) = flag_from(options, "stay") else {
-        return Err(Mistake::Stay);
-    };
+    let idle = number_of(options, IDLE)?;
+    let stays = flag_from(options, STAY)?;
     Ok(Task::Serve(Service {
         port,
         sessions,
@@ -164,8 +87,18 @@ pub(crate) fn serve_task(options: &ArgMatches<'_>) -> Result<Task, Mistake>
     }))
 }
 
+// Returns the port that the options give, or the mistake in it.
+fn port(options: &ArgMatches<'_>) -> Result<u16, Mistake>
+    ensures { IsReadOrMistake port_in (rows_of (found_of options.now)) result }
+{
+    match given_port(options) {
+        Some(port) => Ok(port),
+        None => Err(Mistake::Value(PORT)),
+    }
+}
+
 // Returns the port that the options give.
-fn port(options: &ArgMatches<'_>) -> Option<u16>
+fn given_port(options: &ArgMatches<'_>) -> Option<u16>
     ensures { result ≡ port_in (rows_of (found_of options.now)) }
 {
     match options.get_str("port") {
@@ -248,34 +181,26 @@ pub(crate) fn has_secret(options: &ArgMatches<'_>) -> bool
 
 // Returns the task of the options of `fetch`, or the mistake in them.
 pub(crate) fn fetch_task(options: &ArgMatches<'_>) -> Result<Task, Mistake>
-    ensures { IsTaskOrMistake fetch_in (rows_of (found_of options.now)) result }
+    ensures { IsReadOrMistake fetch_in (rows_of (found_of options.now)) result }
 {
-    match port(options) {
-        Some(port) => {
-            let secret = has_secret(options);
-            Ok(Task::Fetch { port, secret })
-        }
-        None => Err(Mistake::Port),
-    }
+    let port = port(options)?;
+    let secret = has_secret(options);
+    Ok(Task::Fetch { port, secret })
 }
 
 // Returns the task of the options of `ask`, or the mistake in them.
 pub(crate) fn ask_task(options: &ArgMatches<'_>) -> Result<Task, Mistake>
-    ensures { IsTaskOrMistake ask_in (rows_of (found_of options.now)) result }
+    ensures { IsReadOrMistake ask_in (rows_of (found_of options.now)) result }
 {
-    match port(options) {
-        Some(port) => {
-            let secret = has_secret(options);
-            Ok(Task::Ask { port, secret })
-        }
-        None => Err(Mistake::Port),
-    }
+    let port = port(options)?;
+    let secret = has_secret(options);
+    Ok(Task::Ask { port, secret })
 }
 
 // Returns the port that a text writes.
 pub(crate) fn port_of(text: &str) -> Option<u16>
     ensures { result ≡ number_in 1 port_limit text.now }
 {
-    let port = number(text, 1, PORT_LIMIT)?;
+    let port = number(text, PORT.least, PORT.most)?;
     Some(port as u16)
 }

@@ -57,7 +57,7 @@ shows_ago t n w p now h = subst (ShowsState p (state_ago n t)) (sym now) (proper
 pub can_walk : (t : Trail) (n : ℕ) (left : Undo) (w : HeapState) (p : PinContents) → w ≡ t.current → IsPinAgo p t n → HasRecord t n left → CanWalk left w p
 can_walk t n left w p now h r =
     let x = state_ago n t in
-    (x, r.0, subst (λ (v : HeapState). IsStep r.0 v x left) (sym (back_is r.0 (state_ago (n + 1) t) x left r.1)) r.1, h.pin, shows_ago t n w p now h)
+    (x, r.0, subst (λ (v : HeapState). IsStep r.0 v x left) (sym (back_is r.0 (state_ago (n + 1) t) x left r.1)) r.1, h.pin, shows_ago t n w p now h, h.whole)
 
 pub walked_one : (t : Trail) (n : ℕ) (left : Undo) (w : HeapState) (p q : PinContents) → w ≡ t.current → n < retained t → IsPinAgo p t n → HasRecord t n left → IsWalkedBack left w p q → IsPinAgo q t (n + 1)
 walked_one t n left w p q now l h r b =

@@ -289,9 +289,7 @@ impl Pin {
         requires region { at.region < length self.now.copies }
         ensures { result ≡ goes_by_part world.now self.now at }
     {
-        at.cell == 0
-            && world.regions().words(at).len() > 1024
-            && !self.has_copy(at.region as u64)
+        at.cell == 0 && world.regions().words(at).len() > 1024 && !self.has_copy(at.region as u64)
     }
 
     // Adds the part that has this slot, with its old word. The pin must have no such part. Fails with NoMemory if an allocation

@@ -14,8 +14,12 @@ goes_by_part-requires-clause-there c = (written_word_is_of_object c.requires.ste
 pub goes_by_part-requires-clause-region : goal.goes_by_part-requires-clause-region
 goes_by_part-requires-clause-region c =
     let o : Overwritten = record { at = c.args.at; slot = c.args.slot; old = c.args.old } in
-    omega (arith, c.requires.sized, touched_region_is_in_heap c.requires.step.0 c.requires.step.1 c.args.world.now c.args.left.now c.requires.step.2 c.args.at.region
-    (written_word_is_of_object c.requires.step.0 c.requires.step.1 c.args.world.now c.args.left.now c.requires.step.2 o c.requires.written).region)
+    omega (
+      arith,
+      c.requires.sized,
+      touched_region_is_in_heap c.requires.step.0 c.requires.step.1 c.args.world.now c.args.left.now c.requires.step.2 c.args.at.region
+          (written_word_is_of_object c.requires.step.0 c.requires.step.1 c.args.world.now c.args.left.now c.requires.step.2 o c.requires.written).region,
+    )
 
 pub keep_copy-requires-clause-touched : goal.keep_copy-requires-clause-touched
 keep_copy-requires-clause-touched c = (written_word_is_of_object c.requires.step.0 c.requires.step.1 c.args.world.now c.args.left.now c.requires.step.2 (record { at = c.args.at; slot = c.args.slot; old = c.args.old }) c.requires.written).region

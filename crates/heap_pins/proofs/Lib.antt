@@ -18,6 +18,8 @@ pub mod AddedCopies
 pub mod RoomForCopies
 pub mod OpenedPins
 pub mod PartSteps
+pub mod PartsOver
+pub mod WholePins
 pub mod HeldPins
 pub mod WalkSteps
 pub mod States

@@ -24,7 +24,7 @@ copy_has p regions at f whole s e = subst (λ (g : Frozen). IsSome (frozen_objec
 pub region_as_is : (p : PinContents) (regions : List Region) (at : ObjRef) → HasNoParts p → slice_index_or p.copies at.region None ≡ None → region_seen p regions at.region ≡ region_frozen regions at.region
 region_as_is p regions at whole e = whole_pin_sees p regions at.region whole ∙ ap (λ x. copy_or_now x (region_frozen regions at.region)) e
 
-frozen_object_is_the_object : (regions : List Region) (at : ObjRef) (f : Frozen) → region_frozen regions at.region ≡ Some f → frozen_object f at.cell ≡ object_at regions at
+pub frozen_object_is_the_object : (regions : List Region) (at : ObjRef) (f : Frozen) → region_frozen regions at.region ≡ Some f → frozen_object f at.cell ≡ object_at regions at
 unfolding region_frozen
 frozen_object_is_the_object regions at f e = go (used_at regions at.region) refl e
   where

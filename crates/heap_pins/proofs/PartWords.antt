@@ -37,11 +37,11 @@ other_part_stays (e ∷ es) r k q j ws ne = ap (cond (same_part (r, k) e.0) (Som
 
 -- ---- one word
 
-word_without_part : (es : List Part) (r i now : ℕ) → part_at es r (i / 1024) ≡ None → word_shown es r i now ≡ now
+pub word_without_part : (es : List Part) (r i now : ℕ) → part_at es r (i / 1024) ≡ None → word_shown es r i now ≡ now
 unfolding word_shown
 word_without_part es r i now none = ap (λ p. option_map_or (λ ws. slice_index_or ws (i % 1024) now) p now) none
 
-word_of_part : (es : List Part) (r i now : ℕ) (ws : List ℕ) → part_at es r (i / 1024) ≡ Some ws → word_shown es r i now ≡ slice_index_or ws (i % 1024) now
+pub word_of_part : (es : List Part) (r i now : ℕ) (ws : List ℕ) → part_at es r (i / 1024) ≡ Some ws → word_shown es r i now ≡ slice_index_or ws (i % 1024) now
 unfolding word_shown
 word_of_part es r i now ws there = ap (λ p. option_map_or (λ ws. slice_index_or ws (i % 1024) now) p now) there
 

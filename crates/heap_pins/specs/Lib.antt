@@ -13,3 +13,4 @@ pub mod Walk
 pub mod States
 pub mod WalkedPins
 pub mod View
+pub mod Whole

@@ -10,7 +10,7 @@ use crate::numbers::RegionNumbers;
 use crate::region_copy::RegionCopy;
 use heap_class::Refusal;
 use heap_region::FrozenRegion;
-use std::alloc::Global;
+use std::alloc::{AllocError, Global};
 use std::marker::Model;
 
 // What a pin keeps of a region: a copy of it, if it was overwritten, and a byte for each cell.
@@ -87,6 +87,20 @@ impl KeptRegions {
             slot => match &self.kept[slot as usize - 1].copy {
                 Some(copy) => Some(copy.region()),
                 None => None,
+            },
+        }
+    }
+
+    // Shares the copy of a region, if there is one. Fails if 2^63 pins share it.
+    pub(crate) fn share(&self, region: u64) -> Result<Option<RegionCopy>, AllocError>
+        requires { region < length self.now.copies }
+        ensures { IfOk result (λ c. c ≡ slice_index_or self.now.copies region None) }
+    {
+        match self.slots.get(region) {
+            0 => Ok(None),
+            slot => match &self.kept[slot as usize - 1].copy {
+                Some(copy) => Ok(Some(copy.share()?)),
+                None => Ok(None),
             },
         }
     }

@@ -6,6 +6,7 @@ ghost use Rattle.heap_step.specs.declared.Event.{Event};
 ghost use Rattle.heap_step.specs.declared.Undo.{Undo};
 ghost use Rattle.heap_pins.specs.Pin.{PinContents};
 ghost use Rattle.heap_pins.specs.WalkedPins.{WalkHolds, WalksOn};
+ghost use Rattle.heap_pins.specs.Whole.{IsMadeWhole, ShowsAllOf};
 ghost use Rattle.heap_pins.specs.Laws.{KeepsOthers, EventKeeps, EventExtends, IsRecordTold, HoldsOn, HoldsImage, HoldsBack};
 
 mod cells;
@@ -17,6 +18,7 @@ mod reads;
 mod region_copy;
 mod view;
 mod walk;
+mod whole;
 
 use heap_step::undo_restores;
 pub use pin::{Pin, ends_cycle, noted_region, touched_region};
@@ -59,4 +61,11 @@ pub fn pins_hold()
         → HoldsOn left v p u }
     ensures image { (w : HeapState) (p : PinContents) (u : HeapState) → HoldsImage w p u }
     ensures rewound { (p : PinContents) (u : HeapState) → HoldsBack p u }
+{}
+
+/// States that a pin that was made whole shows each state that the pin with parts shows, beside each state beside which that one
+/// shows it.
+pub fn whole_pins_show()
+    ensures { (p : PinContents) (w : HeapState) (q : PinContents) → IsMadeWhole p w q
+        → ShowsAllOf p w q }
 {}

@@ -1,9 +1,13 @@
 //! What a pin keeps of large objects: copies of parts of 1,024 words.
-ghost use Rattle.std.specs.Prelude.{◌≡◌, ◌<◌, [], ◌∷◌, ◌++◌, length, None, Some, IfOk, IfErr, OnOk, OnErr, MatchOption};
+ghost use Rattle.std.specs.Prelude.{◌≡◌, ◌<◌, ◌≤◌, ◌↔◌, ℕ, true, [], ◌∷◌, ◌++◌, length, None, Some, IsSome, IfOk, IfErr, OnOk, OnErr, MatchOption};
 ghost use Rattle.heap_class.specs.declared.Refusal.TheVariants.{NoMemory};
-ghost use Rattle.heap_pins.specs.Parts.{part_at, part_before};
+ghost use Rattle.heap_region.specs.Limits.{region_limit};
+ghost use Rattle.heap_region.specs.RegionCopies.{frozen_object};
+ghost use Rattle.heap_pins.specs.Parts.{frozen_shown, part_at, part_before, word_shown};
+ghost use Rattle.heap_pins.specs.Whole.{AreFlags};
 
 use heap_class::Refusal;
+use heap_region::FrozenRegion;
 use indexmap::IndexMap;
 use std::alloc::{AllocError, Global};
 use std::marker::Model;
@@ -97,6 +101,59 @@ impl KeptParts {
         match self.parts.insert((region, part), copy) {
             Ok(_) => Ok(()),
             Err(_) => Err(Refusal::NoMemory),
+        }
+    }
+
+    // Tells whether there are no parts.
+    pub(crate) fn is_empty(&self) -> bool
+        ensures { result ≡ true ↔ (self.now ≡ []) }
+    {
+        self.parts.is_empty()
+    }
+
+    // Tells for each of this many regions whether there are parts of its object. Fails if the allocation fails.
+    pub(crate) fn flags(&self, alloc: Global, count: u64) -> Result<Vec<bool>, AllocError>
+        requires { count ≤ region_limit }
+        ensures { IfOk result (λ f. AreFlags self.now count f.items) }
+    {
+        let mut flags = vec![in alloc; false; count as usize]?;
+        for index in 0..self.parts.len() {
+            if let Some((key, _)) = self.parts.get_index(index) {
+                if key.0 < count {
+                    flags[key.0 as usize] = true;
+                }
+            }
+        }
+        Ok(flags)
+    }
+
+    // Returns a word of an object by its slot, if there is a copy of its part that reaches the slot.
+    fn word(&self, region: u64, slot: u64) -> Option<u64>
+        ensures { MatchOption result
+            ((now : ℕ) → word_shown self.now region slot now ≡ now)
+            (λ word. (now : ℕ) → word_shown self.now region slot now ≡ word) }
+    {
+        match self.part(region, slot / 1024) {
+            Some(words) => {
+                let place = slot as usize % PART_WORDS;
+                let inside = place < words.len();
+                if inside { Some(words[place]) } else { None }
+            }
+            None => None,
+        }
+    }
+
+    // Puts the parts of the object in the first cell of a copied region over its words. There must be an object.
+    pub(crate) fn put_over(&self, region: u64, copy: &mut FrozenRegion)
+        requires { IsSome (frozen_object copy.old 0) }
+        ensures { copy.new ≡ frozen_shown self.now region copy.old }
+    {
+        let count = copy.words(0).len() as u64;
+        for slot in 0..count {
+            match self.word(region, slot) {
+                Some(word) => copy.set_word(0, slot, word),
+                None => {}
+            }
         }
     }
 }

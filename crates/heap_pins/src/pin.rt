@@ -372,7 +372,7 @@ impl Pin {
     }
 
     // Returns the bytes of a region.
-    fn bytes(&self, region: u64) -> [u8; 256]
+    pub(crate) fn bytes(&self, region: u64) -> [u8; 256]
         requires { region < length self.now.copies }
         ensures value { result ≡ slice_index_or self.now.cells region [] }
         ensures count { length result ≡ cell_limit }

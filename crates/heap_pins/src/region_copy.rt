@@ -41,7 +41,7 @@ impl RegionCopy {
     }
 
     // Shares the copy. Fails if 2^63 pins do. Takes no memory.
-    fn share(&self) -> Result<RegionCopy, AllocError>
+    pub(crate) fn share(&self) -> Result<RegionCopy, AllocError>
         ensures { IfOk result (λ c. c ≡ self.now) }
     {
         let region = Arc::try_clone(&self.region)?;

@@ -1,5 +1,5 @@
 //! What a pin keeps of large objects: copies of parts of 1,024 words.
-ghost use Rattle.std.specs.Prelude.{◌≡◌, ◌<◌, ◌≤◌, ◌↔◌, ℕ, true, [], ◌∷◌, ◌++◌, length, None, Some, IsSome, IfOk, IfErr, OnOk, OnErr, MatchOption};
+ghost use Rattle.std.specs.Prelude.{◌≡◌, ◌<◌, ◌≤◌, ◌↔◌, ℕ, true, [], ◌∷◌, ◌++◌, length, None, Some, IsSome, IfOk, IfErr, OnOk, OnErr, MatchOption, slice_set};
 ghost use Rattle.heap_class.specs.declared.Refusal.TheVariants.{NoMemory};
 ghost use Rattle.heap_region.specs.Limits.{region_limit};
 ghost use Rattle.heap_region.specs.RegionCopies.{frozen_object};
@@ -118,10 +118,9 @@ impl KeptParts {
     {
         let mut flags = vec![in alloc; false; count as usize]?;
         for index in 0..self.parts.len() {
-            if let Some((key, _)) = self.parts.get_index(index) {
-                if key.0 < count {
-                    flags[key.0 as usize] = true;
-                }
+            match self.parts.get_index(index) {
+                Some((key, _)) => raise(&mut flags, key.0),
+                None => {}
             }
         }
         Ok(flags)
@@ -155,5 +154,15 @@ impl KeptParts {
                 None => {}
             }
         }
+    }
+}
+
+// Raises the flag of a region, if there is one.
+fn raise(flags: &mut Vec<bool>, region: u64)
+    ensures { flags.new.items ≡ slice_set flags.old.items region true }
+{
+    let inside = region < flags.len() as u64;
+    if inside {
+        flags[region as usize] = true;
     }
 }
